@@ -1,0 +1,17 @@
+// The host: groups of orders, and the command bytes that carry them out.
+mod encoder;
+mod fault;
+mod group;
+
+pub use encoder::encode;
+pub use fault::HostFault;
+pub use fault::HostFaultFromAlloc;
+pub use fault::HostFaultFromRefusal;
+pub use fault::HostFaultFromRefused;
+pub use fault::HostFaultFromTable;
+pub use group::Action;
+pub use group::Group;
+pub use group::Order;
+pub use group::Pending;
+pub use group::Sent;
+pub use group::Unsent;

@@ -1,0 +1,11 @@
+// Passes and runs over any scan transport.
+// A run wants some instruments: it opens the way to them one level at a time, and then shifts through them.
+mod path;
+mod plan;
+mod run;
+
+pub use path::path_len;
+pub use plan::Plan;
+pub use plan::Wanted;
+pub use run::configure;
+pub use run::run_group;

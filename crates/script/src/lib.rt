@@ -1,0 +1,10 @@
+// Runs a text of statements on a simulated die, from the bytes of the text to the lines that a program prints.
+mod die;
+mod line;
+mod session;
+
+pub use die::Die;
+pub use line::Line;
+pub use line::LineDisplay;
+pub use session::MOST_TEXT;
+pub use session::run_text;
