@@ -26,9 +26,10 @@ both-right false b e = absurd (let z : _≡_ {A = ℕ} 0 1 = cc in omega arith)
 below : (n : ℕ) (f : ℕ → Bool) → all-below n f ≡ true → (k : ℕ) → k < n → f k ≡ true
 below zero f e k h = absurd (omega arith)
 below (suc n) f e k h =
-    elim (cases-eq k n)
-    [ inl s ↦ rw s (both-left (f n) (all-below n f) e)
-    | inr d ↦ below n f (both-right (f n) (all-below n f) e) k (omega arith) ]
+    elim (cases-eq k n) [
+      | inl s ↦ rw s (both-left (f n) (all-below n f) e)
+      | inr d ↦ below n f (both-right (f n) (all-below n f) e) k (omega arith)
+    ]
 
 abbrev same-bit : Bool → Bool → Bool
 same-bit true b = b

@@ -31,6 +31,7 @@ pub const MOST_DATA: usize = 32_767;
 const MOST_NUMBER: usize = 16_383;
 
 const WRITE: u16 = 0x4000;
+
 const DATA: u16 = 0x8000;
 
 // The word of the first two bytes.
@@ -60,8 +61,20 @@ fn command_of(word: u16, after: &[u8]) -> (Command<'_>, &[u8])
             let (bytes, rest) = after.split_at(following(word));
             (Command::Data(bytes), rest)
         }
-        number if word < WRITE => (Command::Control { number: number as usize, write: false }, after),
-        _ => (Command::Control { number: (word - WRITE) as usize, write: true }, after),
+        number if word < WRITE => (
+            Command::Control {
+                number: number as usize,
+                write: false,
+            },
+            after,
+        ),
+        _ => (
+            Command::Control {
+                number: (word - WRITE) as usize,
+                write: true,
+            },
+            after,
+        ),
     }
 }
 
@@ -91,7 +104,11 @@ pub fn control_bytes(number: usize, write: bool) -> Option<[u8; 2]>
     if number == 0 || number > MOST_NUMBER {
         return None;
     }
-    let word = if write { WRITE + number as u16 } else { number as u16 };
+    let word = if write {
+        WRITE + number as u16
+    } else {
+        number as u16
+    };
     Some(word.to_be_bytes())
 }
 

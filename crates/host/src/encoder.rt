@@ -47,7 +47,9 @@ fn bits_in(writes: &[Write]) -> usize {
 fn store_write(data: &mut [u8], from: BitPlace, write: Write, bits: &[bool]) -> BitPlace {
     let mut at = from;
     for k in 0..write.length {
-        let bit = bits.get(write.first.saturating_add(k)).copied().unwrap_or(false);
+        let bit = bits.get(write.first.saturating_add(k))
+            .copied()
+            .unwrap_or(false);
         let _ = store_bit(data, at.byte, at.place, bit);
         at = at.next();
     }

@@ -75,16 +75,22 @@ impl Group {
     // Orders an instrument to be read.
     pub fn get(&mut self, table: &[Record], number: usize) -> Result<(), HostFault> {
         let length = look_up(table, self.orders.as_slice(), number)?;
-        self.orders.push(Order {
-            number,
-            length,
-            action: Action::Read,
-        })?;
+        self.orders
+            .push(Order {
+                number,
+                length,
+                action: Action::Read,
+            })?;
         Ok(())
     }
 
     // Orders an instrument to be written; the first of the bits is shifted first.
-    pub fn write(&mut self, table: &[Record], number: usize, bits: &[bool]) -> Result<(), HostFault> {
+    pub fn write(
+        &mut self,
+        table: &[Record],
+        number: usize,
+        bits: &[bool],
+    ) -> Result<(), HostFault> {
         let length = look_up(table, self.orders.as_slice(), number)?;
         if bits.len() != length {
             return Err(HostFault::Refused(Refusal::DigitCount));

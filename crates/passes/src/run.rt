@@ -33,7 +33,12 @@ pub fn configure<S: Scan>(scan: &mut S, plan: &Plan) -> Result<u64, ScanFault> {
 }
 
 // Shifts the next bits of `sent` into an instrument.
-fn shift_write<S: Scan>(scan: &mut S, length: u16, sent: &[u8], from: BitPlace) -> Result<(), ScanFault> {
+fn shift_write<S: Scan>(
+    scan: &mut S,
+    length: u16,
+    sent: &[u8],
+    from: BitPlace,
+) -> Result<(), ScanFault> {
     let mut at = from;
     for _ in 0..length {
         let bit = take_bit(sent, at.byte, at.place).unwrap_or(false);
@@ -44,7 +49,12 @@ fn shift_write<S: Scan>(scan: &mut S, length: u16, sent: &[u8], from: BitPlace) 
 }
 
 // Shifts ones into an instrument, and what comes out into `kept`.
-fn shift_read<S: Scan>(scan: &mut S, length: u16, kept: &mut [u8], to: BitPlace) -> Result<(), ScanFault> {
+fn shift_read<S: Scan>(
+    scan: &mut S,
+    length: u16,
+    kept: &mut [u8],
+    to: BitPlace,
+) -> Result<(), ScanFault> {
     let mut at = to;
     for _ in 0..length {
         let bit = scan.shift(true)?;
@@ -54,7 +64,12 @@ fn shift_read<S: Scan>(scan: &mut S, length: u16, kept: &mut [u8], to: BitPlace)
     Ok(())
 }
 
-fn data_pass<S: Scan>(scan: &mut S, plan: &Plan, sent: &[u8], kept: &mut [u8]) -> Result<u64, ScanFault> {
+fn data_pass<S: Scan>(
+    scan: &mut S,
+    plan: &Plan,
+    sent: &[u8],
+    kept: &mut [u8],
+) -> Result<u64, ScanFault> {
     let pass = plan.depth.saturating_add(1);
     let mut from = BitPlace::start();
     let mut to = BitPlace::start();
@@ -84,7 +99,12 @@ fn data_pass<S: Scan>(scan: &mut S, plan: &Plan, sent: &[u8], kept: &mut [u8]) -
 }
 
 // Writes and reads the chosen instruments that are not excluded; answers how many bits it shifted.
-pub fn run_group<S: Scan>(scan: &mut S, records: &[Record], sent: &[u8], kept: &mut [u8]) -> Result<u64, ScanFault> {
+pub fn run_group<S: Scan>(
+    scan: &mut S,
+    records: &[Record],
+    sent: &[u8],
+    kept: &mut [u8],
+) -> Result<u64, ScanFault> {
     let plan = Plan::new(records, Wanted::Chosen);
     let shifted = configure(scan, &plan)?;
     if plan.depth == 0 {

@@ -32,6 +32,12 @@ struct Counts {
     listed: usize,
 }
 
+fn bits_if(counts: bool, length: u16) -> usize
+    ensures { λ r. ⌜ r ≡ cond counts length 0 ⌝ }
+{
+    if counts { length as usize } else { 0 }
+}
+
 // What one record adds.
 fn counts_of(sib: Record, excluded: bool) -> Counts
     ensures chosen { λ r. ⌜ r .chosen ≡ cond (sib .chosen) 1 0 ⌝ }
@@ -40,19 +46,11 @@ fn counts_of(sib: Record, excluded: bool) -> Counts
     ensures listed { λ r. ⌜ r .listed ≡ cond (sib .chosen && excluded) 1 0 ⌝ }
     ensures bound { λ r. ⌜ (r .chosen ≤ 1) × (r .«sent_bits» ≤ 65535) × (r .«kept_bits» ≤ 65535) × (r .listed ≤ 1) ⌝ }
 {
-    let bits = sib.length as usize;
-    let none = Counts {
-        chosen: 0,
-        sent_bits: 0,
-        kept_bits: 0,
-        listed: 0,
-    };
-    match (sib.chosen, sib.write, excluded) {
-        (false, _, _) => none,
-        (true, true, false) => Counts { chosen: 1, sent_bits: bits, ..none },
-        (true, true, true) => Counts { chosen: 1, sent_bits: bits, listed: 1, ..none },
-        (true, false, false) => Counts { chosen: 1, kept_bits: bits, ..none },
-        (true, false, true) => Counts { chosen: 1, listed: 1, ..none },
+    Counts {
+        chosen: usize::from(sib.chosen),
+        sent_bits: bits_if(sib.chosen && sib.write, sib.length),
+        kept_bits: bits_if(sib.chosen && !sib.write && !excluded, sib.length),
+        listed: usize::from(sib.chosen && excluded),
     }
 }
 

@@ -32,9 +32,15 @@ const MOST_REPLY: usize = 8;
 impl Die {
     pub fn new(heap: Global) -> Result<Die, HostFault> {
         let mut records = vec![in heap; Record::instrument(1, 8); INSTRUMENTS]?;
-        let network = match Simulator::new(heap, records.as_slice(), &[Offer::Inverts, Offer::Inverts, Offer::Inverts]) {
+        let network = match Simulator::new(
+            heap,
+            records.as_slice(),
+            &[Offer::Inverts, Offer::Inverts, Offer::Inverts],
+        ) {
             Ok(network) => network,
-            Err(NetworkFault::Table(fault)) => return Err(HostFault::Refused(Refusal::Table(fault))),
+            Err(NetworkFault::Table(fault)) => return Err(HostFault::Refused(Refusal::Table(
+                fault,
+            ))),
             Err(_) => return Err(HostFault::Memory),
         };
         if let Err(fault) = attach(records.as_mut_slice()) {

@@ -66,9 +66,11 @@ impl Session {
             Statement::Write { number, digits } => {
                 let number = instrument_number(number)?;
                 let bits = bits_of(heap, digits)?;
-                self.group.write(self.die.records(), number, bits.as_slice())
+                self.group
+                    .write(self.die.records(), number, bits.as_slice())
             }
-            Statement::Get { number } => self.group.get(self.die.records(), instrument_number(number)?),
+            Statement::Get { number } => self.group
+                .get(self.die.records(), instrument_number(number)?),
             Statement::Apply => self.apply(heap),
         }
     }
@@ -93,10 +95,11 @@ impl Session {
                 Ok(Some(after)) => rest = after,
                 Ok(None) => return Ok(()),
                 Err(HostFault::Refused(refusal)) => {
-                    self.lines.push(Line::Refused {
-                        number: refusal.number(),
-                        at: start,
-                    })?;
+                    self.lines
+                        .push(Line::Refused {
+                            number: refusal.number(),
+                            at: start,
+                        })?;
                     return Ok(());
                 }
                 Err(HostFault::Memory) => return Err(AllocError),

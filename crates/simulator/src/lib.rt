@@ -117,7 +117,11 @@ fn copy_row(cells: &Vec<bool>, held: &mut Vec<bool>, row: usize, length: usize) 
 
 impl Simulator {
     // A network at rest with the cable in: all SIBs closed, all cells and held bits 0.
-    pub fn new(heap: Global, records: &[Record], offers: &[Offer]) -> Result<Simulator, NetworkFault> {
+    pub fn new(
+        heap: Global,
+        records: &[Record],
+        offers: &[Offer],
+    ) -> Result<Simulator, NetworkFault> {
         check_table(records)?;
         if offers.len() != records.len() {
             return Err(NetworkFault::Offers);

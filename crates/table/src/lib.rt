@@ -127,7 +127,11 @@ fn highest_broken(records: &[Record]) -> Option<usize>
         }
         depth_before = record.depth as u16;
     }
-    if depth_before > 1 { Some(records.len()) } else { broken }
+    if depth_before > 1 {
+        Some(records.len())
+    } else {
+        broken
+    }
 }
 
 // Tests all records: first how many they are, then the rules of each.

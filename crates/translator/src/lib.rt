@@ -1,79 +1,9 @@
 // The translator: control chooses instruments, data writes and reads them in one run, drop forgets the choice.
 // The table is passed beside the transport at each call; no object owns either.
-ghost use mathlib.Core.Path.{_≡_};
-ghost use mathlib.Core.List.{List, map};
-ghost use Rattle.refusal.specs.Checks.{answered, left};
-ghost use Rattle.table.specs.Marks.{choosing, unchosen};
-ghost use Rattle.translator.specs.Choice.{table-check, control-refusal};
-use passes::run_group;
-use refusal::Refusal;
-use refusal::RefusalFromScan;
-use refusal::RefusalFromTable;
-use reply::measure;
-use reply::put_list;
-use scan::Scan;
-use table::Record;
-use table::check_table;
-use table::choose;
-use table::clear_choice;
+mod choice;
+mod group;
 
-// What an accepted group answers: how many bytes of the buffer its reply takes, and how many bits it shifted.
-#[derive(Clone, Copy)]
-pub struct Applied {
-    pub reply: usize,
-    pub shifted: u64,
-}
-
-// Chooses an instrument, to be written or read by the next data call.
-pub fn control(table: &mut [Record], number: usize, write: bool) -> Result<(), Refusal>
-    ensures value { λ r. ⌜ r ≡ answered tt (control-refusal (now (table .entry)) number) ⌝ }
-    ensures after { λ _. ⌜ now (table .exit) ≡ left (control-refusal (now (table .entry)) number) (choosing (now (table .entry)) number write) (now (table .entry)) ⌝ }
-{
-    check_table(table)?;
-    choose(table, number, write)
-}
-
-// Forgets the choice.
-pub fn drop_choice(table: &mut [Record]) -> Result<(), Refusal>
-    ensures value { λ r. ⌜ r ≡ answered tt (table-check (now (table .entry))) ⌝ }
-    ensures after { λ _. ⌜ now (table .exit) ≡ left (table-check (now (table .entry))) (map unchosen (now (table .entry))) (now (table .entry)) ⌝ }
-{
-    check_table(table)?;
-    clear_choice(table);
-    Ok(())
-}
-
-fn clear_bytes(bytes: &mut [u8], count: usize) {
-    for (i, byte) in bytes.iter_mut().enumerate() {
-        if i < count {
-            *byte = 0;
-        }
-    }
-}
-
-// Applies the chosen group: writes the sent bits, reads, and packs the reply. Accepted, it empties the choice; a lost call
-// leaves the choice and, as far as the reply would have reached, zeros; any other refusal leaves everything.
-pub fn data<S: Scan>(table: &mut [Record], scan: &mut S, sent: &[u8], reply: &mut [u8]) -> Result<Applied, Refusal> {
-    let size = measure(table)?;
-    if size.chosen == 0 {
-        return Err(Refusal::NothingChosen);
-    }
-    if sent.len() != size.sent {
-        return Err(Refusal::DataLength);
-    }
-    if reply.len() < size.reply {
-        return Err(Refusal::TooSmall { needed: size.reply });
-    }
-    clear_bytes(reply, size.reply);
-    let run = run_group(scan, table, sent, reply);
-    if run.is_err() {
-        clear_bytes(reply, size.reply);
-    }
-    let shifted = run?;
-    put_list(reply, table, size);
-    clear_choice(table);
-    Ok(Applied {
-        reply: size.reply,
-        shifted,
-    })
-}
+pub use choice::control;
+pub use choice::drop_choice;
+pub use group::Applied;
+pub use group::data;

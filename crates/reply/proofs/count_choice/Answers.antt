@@ -14,8 +14,7 @@ loop-i-again c =
     let sent = c .counts-of-one .ensures .sent in
     let kept = c .counts-of-one .ensures .kept in
     let listed = c .counts-of-one .ensures .listed in
-    let bound = c .counts-of-one .ensures .bound in
-    (
+    let bound = c .counts-of-one .ensures .bound in (
       total-next (chosen-at rs) i _ _ (inv .0) (chosen ∙ chosen-next rs i),
       total-next (sent-at rs) i _ _ (inv .1) (sent ∙ sent-next rs i),
       total-next (kept-at rs) i _ _ (inv .2) (kept ∙ kept-next rs i _ x),

@@ -12,10 +12,11 @@ loop-i-holds c = left-none (c .args .records .now)
 pub loop-i-again : need.loop-i-again
 loop-i-again c =
     left-more (c .loop-i .i) (c .loop-i .depth-before) (c .loop-i .broken) (c .if-not-fits .broken) (c .args .records .now) (c .loop-i-test .taken)
-    (elim (c .if-not-fits .came)
-      [ then-not-fits w ↦ grind (arith, tells)
+    (elim (c .if-not-fits .came) [
+      | then-not-fits w ↦ grind (arith, tells)
       | else-not-fits·then-depth-before-floor w ↦ grind (arith, tells)
-      | else-not-fits·else-depth-before-floor w ↦ grind (arith, tells) ])
+      | else-not-fits·else-depth-before-floor w ↦ grind (arith, tells)
+    ])
     ∙ c .loop-i .inv
 
 pub returns-then-depth-before-gt1 : need.returns-then-depth-before-gt1
