@@ -1,6 +1,9 @@
--- The number of every refusal. The values that a case carries beside it: the highest broken record's number (2), the size needed (8),
--- the part that lost a call with the parts passed (9).
+-- The number of every refusal, and the value that it carries beside the number, if any.
 use Prim.Native.Nat.{ℕ}
+use Rattle.std.specs.declared.option.Option.{Option}
+use Rattle.std.specs.declared.option.Option.the-variants.{Some, None}
+use Rattle.refusal.specs.declared.Detail.{Detail}
+use Rattle.refusal.specs.declared.Detail.the-variants.{Record, Needed, LostBy}
 use Rattle.refusal.specs.declared.TableFault.{TableFault}
 use Rattle.refusal.specs.declared.TableFault.the-variants.{Size, Broken}
 use Rattle.refusal.specs.declared.ScanFault.{ScanFault}
@@ -29,3 +32,25 @@ refusal-number NotStatement = 10
 refusal-number DigitCount = 11
 refusal-number GroupTooLong = 12
 refusal-number BadReply = 13
+
+abbrev pub table-detail : TableFault → Option Detail
+table-detail Size = None
+table-detail (Broken n) = Some (Record n)
+
+abbrev pub scan-detail : ScanFault → Option Detail
+scan-detail (Lost l) = Some (LostBy l)
+scan-detail WrongPhase = None
+
+abbrev pub refusal-detail : Refusal → Option Detail
+refusal-detail (Table f) = table-detail f
+refusal-detail CutShort = None
+refusal-detail NoInstrument = None
+refusal-detail AlreadyChosen = None
+refusal-detail NothingChosen = None
+refusal-detail DataLength = None
+refusal-detail (TooSmall needed) = Some (Needed needed)
+refusal-detail (Scan f) = scan-detail f
+refusal-detail NotStatement = None
+refusal-detail DigitCount = None
+refusal-detail GroupTooLong = None
+refusal-detail BadReply = None

@@ -1,7 +1,7 @@
 // Every answer that says no, as an enum with the values that belong to it.
-// One definition, `refusal-number` in specs/Numbers.antt, gives each case its number; `number` answers it.
+// Two definitions in specs/Numbers.antt give each case its number and the value that it carries; `number` and `detail` answer them.
 ghost use mathlib.Core.Path.{_≡_};
-ghost use Rattle.refusal.specs.Numbers.{refusal-number, table-number, scan-number};
+ghost use Rattle.refusal.specs.Numbers.{refusal-number, table-number, scan-number, refusal-detail};
 ghost use Rattle.refusal.specs.declared.Refusal.the-variants.{Table, Scan};
 
 // Why a table of SIBs is refused.
@@ -48,6 +48,16 @@ pub enum Refusal {
     GroupTooLong,
     // No translator could have sent this reply.
     BadReply,
+}
+
+// The value that a refusal carries beside its number.
+#[derive(Clone, Copy)]
+pub enum Detail {
+    // The highest number whose record breaks a rule.
+    Record { number: usize },
+    // The size that a buffer needs.
+    Needed { size: usize },
+    LostBy(Loss),
 }
 
 pub impl From<TableFault> for Refusal as RefusalFromTable {
@@ -106,6 +116,17 @@ impl Refusal {
             Refusal::DigitCount => 11,
             Refusal::GroupTooLong => 12,
             Refusal::BadReply => 13,
+        }
+    }
+
+    pub fn detail(self) -> Option<Detail>
+        ensures { λ r. ⌜ r ≡ refusal-detail self ⌝ }
+    {
+        match self {
+            Refusal::Table(TableFault::Broken { number }) => Some(Detail::Record { number }),
+            Refusal::TooSmall { needed } => Some(Detail::Needed { size: needed }),
+            Refusal::Scan(ScanFault::Lost(loss)) => Some(Detail::LostBy(loss)),
+            _ => None,
         }
     }
 }

@@ -1,4 +1,10 @@
 // A scan transport: whatever carries single bits to and from a network of SIBs and instruments.
+mod laws;
+
+pub use laws::pass_reads_and_writes;
+pub use laws::path_takes_open_doorways;
+pub use laws::sound_path_is_a_queue;
+pub use laws::what_is_put_is_shown;
 use refusal::ScanFault;
 
 pub trait Scan {

@@ -37,12 +37,9 @@ fn bits_of(heap: Global, digits: &[u8]) -> Result<Vec<bool>, HostFault> {
     Ok(bits)
 }
 
-// A number too large to be held names no instrument either.
-fn instrument_number(digits: &[u8]) -> Result<usize, HostFault> {
-    match number_of(digits) {
-        Some(number) => Ok(number),
-        None => Err(HostFault::Refused(Refusal::NoInstrument)),
-    }
+// The number that digits name, or 0, which names no instrument either, where it is too large to be held.
+fn number_named(digits: &[u8]) -> usize {
+    number_of(digits).unwrap_or(0)
 }
 
 impl Session {
@@ -64,13 +61,11 @@ impl Session {
     fn carry_out(&mut self, heap: Global, statement: Statement) -> Result<(), HostFault> {
         match statement {
             Statement::Write { number, digits } => {
-                let number = instrument_number(number)?;
                 let bits = bits_of(heap, digits)?;
                 self.group
-                    .write(self.die.records(), number, bits.as_slice())
+                    .write(self.die.records(), number_named(number), bits.as_slice())
             }
-            Statement::Get { number } => self.group
-                .get(self.die.records(), instrument_number(number)?),
+            Statement::Get { number } => self.group.get(self.die.records(), number_named(number)),
             Statement::Apply => self.apply(heap),
         }
     }

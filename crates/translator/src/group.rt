@@ -44,6 +44,7 @@ pub fn data<S: Scan>(
     }
     clear_bytes(reply, size.reply);
     let run = run_group(scan, table, sent, reply);
+    // A run begins with a reset, so it fails only where a call is lost.
     if run.is_err() {
         clear_bytes(reply, size.reply);
     }

@@ -1,4 +1,4 @@
-// Whole texts against the lines that they must print.
+// Whole texts against the lines that they must print, and single groups against the replies and bit counts that are worked out by hand.
 use script::LineDisplay;
 use script::run_text;
 use std::alloc::AllocError;
@@ -12,6 +12,9 @@ pub fn printed(heap: Global, text: &[u8]) -> Result<String, AllocError> {
     }
     Ok(out)
 }
+
+#[cfg(test)]
+mod groups;
 
 #[cfg(test)]
 mod tests {

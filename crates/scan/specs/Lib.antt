@@ -1,0 +1,5 @@
+pub mod Network
+pub mod Path
+pub mod Moves
+pub mod Calls
+pub mod Laws
