@@ -9,6 +9,7 @@ use refusal::Refusal;
 use refusal::RefusalFromTable;
 use simulator::NetworkFault;
 use simulator::Offer;
+use simulator::Setting;
 use simulator::Simulator;
 use simulator::SimulatorScan;
 use std::alloc::Global;
@@ -32,10 +33,17 @@ const MOST_REPLY: usize = 8;
 impl Die {
     pub fn new(heap: Global) -> Result<Die, HostFault> {
         let mut records = vec![in heap; Record::instrument(1, 8); INSTRUMENTS]?;
+        let inverts = Setting {
+            offer: Offer::Inverts,
+            fault: None,
+        };
+        let settings = vec![in heap; inverts; INSTRUMENTS]?;
+        let held = vec![in heap; false; 8 * INSTRUMENTS]?;
         let network = match Simulator::new(
             heap,
             records.as_slice(),
-            &[Offer::Inverts, Offer::Inverts, Offer::Inverts],
+            settings.as_slice(),
+            held.as_slice(),
         ) {
             Ok(network) => network,
             Err(NetworkFault::Table(fault)) => return Err(HostFault::Refused(Refusal::Table(

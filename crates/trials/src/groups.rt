@@ -1,6 +1,7 @@
 // Groups on tables of several shapes, on simulated networks whose instruments all invert zeros at first.
 use refusal::Refusal;
 use simulator::Offer;
+use simulator::Setting;
 use simulator::Simulator;
 use simulator::SimulatorScan;
 use std::alloc::Global;
@@ -18,8 +19,17 @@ struct Order(usize, bool);
 const UNWRITTEN: u8 = 0xA5;
 
 fn network_of(heap: Global, records: &[Record]) -> Result<Simulator, Fail> {
-    let offers = vec![in heap; Offer::Inverts; records.len()]?;
-    match Simulator::new(heap, records, offers.as_slice()) {
+    let inverts = Setting {
+        offer: Offer::Inverts,
+        fault: None,
+    };
+    let settings = vec![in heap; inverts; records.len()]?;
+    let mut bits: usize = 0;
+    for record in records {
+        bits = bits.saturating_add(record.length as usize);
+    }
+    let held = vec![in heap; false; bits]?;
+    match Simulator::new(heap, records, settings.as_slice(), held.as_slice()) {
         Ok(network) => Ok(network),
         Err(_) => Err(Fail::new("no network")),
     }

@@ -1,0 +1,20 @@
+use mathlib.Core.Path.{refl, sym}
+use Rattle.simulator.proofs.Standing.{lost-call, captured-law}
+use Rattle.simulator.proofs.calls.SimulatorScan.capture.Needs as need
+
+pub returns-then-self : need.returns-then-self
+returns-then-self c =
+    let w = c .lose .ensures in
+    record {
+      did = λ _. rw (w .answer) (refl, lost-call _ _ _ w);
+      kept = λ v. v;
+      lost = rw (w .answer) (sym (c .if-self .taken));
+    }
+
+pub returns : need.returns
+returns c =
+    record {
+      did = λ _. captured-law _ _ (c .in-Rest .is) (c .fill-path .ensures);
+      kept = λ v. v;
+      lost = sym (c .if-self .left);
+    }

@@ -1,0 +1,4 @@
+pub mod Round
+pub mod Meaning
+pub mod Simulated
+pub mod Fresh
