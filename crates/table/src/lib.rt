@@ -6,7 +6,10 @@ ghost use mathlib.Core.List.{List, map};
 ghost use Rattle.refusal.specs.Checks.{answered, left, first-failing};
 ghost use Rattle.std.specs.declared.option.Option.the-variants.{Some, None};
 ghost use Rattle.table.specs.Rules.{fits, floor-under, highest-broken, table-fault, Says-of-table};
-ghost use Rattle.table.specs.Marks.{Finds-instrument, unmarked, unchosen, chosen-for, choosing, choice-checks, is-excluded};
+ghost use Rattle.table.specs.Marks.{Finds-instrument, unmarked, unchosen, choosing, choice-checks, is-excluded};
+
+mod marks;
+
 use refusal::Refusal;
 use refusal::TableFault;
 
@@ -68,37 +71,6 @@ impl Record {
             Kind::Instrument => self.length >= 1 && self.length <= 256,
         };
         self.depth >= 1 && self.depth <= 8 && length_fits
-    }
-
-    fn unmarked(self) -> Record
-        ensures { λ r. ⌜ r ≡ unmarked self ⌝ }
-    {
-        Record {
-            chosen: false,
-            write: false,
-            excluded: false,
-            ..self
-        }
-    }
-
-    fn unchosen(self) -> Record
-        ensures { λ r. ⌜ r ≡ unchosen self ⌝ }
-    {
-        Record {
-            chosen: false,
-            write: false,
-            ..self
-        }
-    }
-
-    fn chosen_for(self, write: bool) -> Record
-        ensures { λ r. ⌜ r ≡ chosen-for write self ⌝ }
-    {
-        Record {
-            chosen: true,
-            write,
-            ..self
-        }
     }
 
     // How deep the next lower number may stand.

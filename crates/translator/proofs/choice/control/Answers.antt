@@ -1,3 +1,4 @@
+use borrow.Author.Needs.{needs}
 use Rattle.std.proofs.shelf.Results.{err-from-errBy}
 use Rattle.refusal.proofs.Answering.{none-refused, refused-by}
 use Rattle.table.specs.Rules.{table-fault}
@@ -12,4 +13,4 @@ returns-in-Break-check-table c =
 pub returns : need.returns
 returns c =
     let ok = none-refused tt (table-fault (c .args .table .now)) (c .in-Continue-check-table .ensures tt .value) in
-    record { value = rw ok (c .choose .ensures .value); after = rw ok (c .choose .ensures .after) }
+    record { value = rw ok (search needs); after = rw ok (search needs) }
