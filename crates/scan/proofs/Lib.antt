@@ -4,3 +4,4 @@ pub mod Sizes
 pub mod Queue
 pub mod Depths
 pub mod Walk
+pub mod Changing

@@ -6,6 +6,7 @@ ghost use Rattle.scan.specs.Calls.{Resets, Captures, Shifts, Updates, Once};
 
 mod laws;
 
+pub use laws::calls_change_only_their_part;
 pub use laws::pass_reads_and_writes;
 pub use laws::path_takes_open_doorways;
 pub use laws::sound_path_is_a_queue;

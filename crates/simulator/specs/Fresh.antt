@@ -63,14 +63,32 @@ lies-in (Some f) n = ltb (f .cell) n
 abbrev pub inside-at : List Record → List Setting → ℕ → Bool
 inside-at rs ts i = lies-in (getD ts i plain .fault) (getD rs i blank .length)
 
+-- the stuck cells of the numbers up to n lie in their rows
+abbrev pub Inside-below : List Record → List Setting → ℕ → Type 0
+Inside-below rs ts n = (i : ℕ) → i < n → inside-at rs ts i ≡ true
+
+-- the lowest number whose stuck cell does not
+pub record Lowest-outside (rs : List Record) (ts : List Setting) (n : ℕ) : Type 0 where
+  pub from-one : 1 ≤ n
+  pub within : n ≤ length rs
+  pub outside : inside-at rs ts (n - 1) ≡ false
+  pub lower-inside : Inside-below rs ts (n - 1)
+
 abbrev pub Refused : List Record → List Setting → List Bool → NetworkFault → Type 0
 Refused rs ts bits (Table f) = table-fault rs ≡ Some f
 Refused rs ts bits Settings = (table-fault rs ≡ None) × (length ts ≢ length rs)
-Refused rs ts bits (Outside n) = (table-fault rs ≡ None) × (length ts ≡ length rs) × (1 ≤ n) × (n ≤ length rs) × (inside-at rs ts (n - 1) ≡ false)
-Refused rs ts bits Held = (table-fault rs ≡ None) × (length ts ≡ length rs) × (length bits ≢ bits-in rs)
+Refused rs ts bits (Outside n) = (table-fault rs ≡ None) × (length ts ≡ length rs) × Lowest-outside rs ts n
+Refused rs ts bits Held = (table-fault rs ≡ None) × (length ts ≡ length rs) × Inside-below rs ts (length rs) × (length bits ≢ bits-in rs)
 Refused rs ts bits Memory = Unit {0}
+
+-- what fits together: a table that passes its test, a setting for each record, stuck cells in their rows, and a held bit for each cell
+pub record Fitting (rs : List Record) (ts : List Setting) (bits : List Bool) : Type 0 where
+  pub table : table-fault rs ≡ None
+  pub settings : length ts ≡ length rs
+  pub inside : Inside-below rs ts (length rs)
+  pub held : length bits ≡ bits-in rs
 
 -- What is made of a table, one setting for each record, and the bits held; or why nothing is.
 abbrev pub Makes : List Record → List Setting → List Bool → Result Simulator NetworkFault → Type 0
-Makes rs ts bits (Ok s) = (network s ≡ fresh rs ts bits) × (s .«cable_out» ≡ false)
+Makes rs ts bits (Ok s) = Fitting rs ts bits × (network s ≡ fresh rs ts bits) × (s .«cable_out» ≡ false)
 Makes rs ts bits (Err e) = Refused rs ts bits e

@@ -37,6 +37,7 @@ pub record Lost-all (s : Simulator) (e : ScanFault) (t : Simulator) : Type 0 whe
   pub sites : t .sites ≡ s .sites
   pub phase : t .phase ≡ Broken
   pub count : t .lost ≡ (s .lost + 1) % 2 ^ 64
+  pub cable : t .«cable_out» ≡ s .«cable_out»
 
 pub record Emptied (s : Simulator) (latches : Bool) (t : Simulator) : Type 0 where
   pub sites : meanings (vec-items (t .sites)) ≡ spread (dealt latches) (on (meanings (vec-items (s .sites)))) (meanings (vec-items (s .sites))) (round (vec-items (s .path .bits)) (s .path .head))
@@ -50,6 +51,7 @@ pub record Filled (s : Simulator) (t : Simulator) : Type 0 where
   pub head : t .path .head ≡ 0
   pub phase : t .phase ≡ Scan
   pub count : t .lost ≡ s .lost
+  pub cable : t .«cable_out» ≡ s .«cable_out»
 
 pub record Turned (s : Simulator) (bit out : Bool) (t : Simulator) : Type 0 where
   pub sites : t .sites ≡ s .sites
@@ -57,3 +59,4 @@ pub record Turned (s : Simulator) (bit out : Bool) (t : Simulator) : Type 0 wher
   pub bits : round (vec-items (t .path .bits)) (t .path .head) ≡ moved (shown (path-flaws (meanings (vec-items (s .sites)))) (round (vec-items (s .path .bits)) (s .path .head))) bit
   pub phase : t .phase ≡ Scan
   pub count : t .lost ≡ s .lost
+  pub cable : t .«cable_out» ≡ s .«cable_out»

@@ -82,6 +82,7 @@ pub impl Scan for Simulator as SimulatorScan {
         ensures made { λ r. ⌜ Once r (Unit {0}) ⌝ }
         ensures kept { λ _. ⌜ (Unit {0} → Unit {0}) ⌝ }
         ensures lost { λ r. ⌜ is-lost r ≡ now (self .entry) .«cable_out» ⌝ }
+        ensures cable { λ _. ⌜ now (self .exit) .«cable_out» ≡ now (self .entry) .«cable_out» ⌝ }
     {
         if self.cable_out {
             return Err(self.lose());
@@ -98,6 +99,7 @@ pub impl Scan for Simulator as SimulatorScan {
         ensures did { λ r. ⌜ (Unit {0} → Captures by-network (network (now (self .entry))) r (network (now (self .exit)))) ⌝ }
         ensures kept { λ _. ⌜ (Unit {0} → Unit {0}) ⌝ }
         ensures lost { λ r. ⌜ is-lost r ≡ now (self .entry) .«cable_out» ⌝ }
+        ensures cable { λ _. ⌜ now (self .exit) .«cable_out» ≡ now (self .entry) .«cable_out» ⌝ }
     {
         if self.cable_out {
             return Err(self.lose());
@@ -113,6 +115,7 @@ pub impl Scan for Simulator as SimulatorScan {
         ensures did { λ r. ⌜ (Unit {0} → Shifts by-network (network (now (self .entry))) bit r (network (now (self .exit)))) ⌝ }
         ensures kept { λ _. ⌜ (Unit {0} → Unit {0}) ⌝ }
         ensures lost { λ r. ⌜ is-lost r ≡ now (self .entry) .«cable_out» ⌝ }
+        ensures cable { λ _. ⌜ now (self .exit) .«cable_out» ≡ now (self .entry) .«cable_out» ⌝ }
     {
         if self.cable_out {
             return Err(self.lose());
@@ -127,6 +130,7 @@ pub impl Scan for Simulator as SimulatorScan {
         ensures did { λ r. ⌜ (Unit {0} → Updates by-network (network (now (self .entry))) r (network (now (self .exit)))) ⌝ }
         ensures kept { λ _. ⌜ (Unit {0} → Unit {0}) ⌝ }
         ensures lost { λ r. ⌜ is-lost r ≡ now (self .entry) .«cable_out» ⌝ }
+        ensures cable { λ _. ⌜ now (self .exit) .«cable_out» ≡ now (self .entry) .«cable_out» ⌝ }
     {
         if self.cable_out {
             return Err(self.lose());

@@ -10,7 +10,7 @@ ghost use Rattle.std.specs.Results.{Cases};
 ghost use Rattle.table.specs.Rules.{blank};
 ghost use Rattle.simulator.specs.declared.site.NetworkFault.the-variants.{Table, Memory, Outside};
 ghost use Rattle.simulator.specs.Meaning.{meaning, meanings, all-cells};
-ghost use Rattle.simulator.specs.Fresh.{fresh-site, fresh-sites, bits-in, lies-in, inside-at, plain, Makes};
+ghost use Rattle.simulator.specs.Fresh.{fresh-site, fresh-sites, bits-in, lies-in, Inside-below, Lowest-outside, Makes};
 use crate::network::Simulator;
 use crate::ring::Ring;
 use crate::site::NetworkFault;
@@ -52,7 +52,7 @@ fn lies_in(fault: Option<Stuck>, length: u16) -> bool
 // How many bits all instruments have, where every stuck cell lies in its row.
 fn count_bits(records: &[Record], settings: &[Setting]) -> Result<usize, NetworkFault>
     requires { ⌜ (length (now settings) ≡ length (now records)) × (length (now records) ≤ 16382) ⌝ }
-    ensures { λ r. ⌜ Cases r (λ n. n ≡ bits-in (now (records .entry))) (λ e. (n : ℕ) × (e ≡ Outside n) × (1 ≤ n) × (n ≤ length (now (records .entry))) × (inside-at (now (records .entry)) (now (settings .entry)) (n - 1) ≡ false)) ⌝ }
+    ensures { λ r. ⌜ Cases r (λ n. (n ≡ bits-in (now (records .entry))) × Inside-below (now (records .entry)) (now (settings .entry)) (length (now (records .entry)))) (λ e. (n : ℕ) × (e ≡ Outside n) × Lowest-outside (now (records .entry)) (now (settings .entry)) n) ⌝ }
 {
     let mut bits: usize = 0;
     for (i, record) in records.iter().enumerate() {

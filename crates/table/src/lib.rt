@@ -1,4 +1,6 @@
 // The SIB table: its records, its rules, and the marks on them.
+// It promises which fault the test of a table answers, for every table (specs/Rules.antt), and the table afterwards, to the last
+// mark, of whatever changes marks (specs/Marks.antt).
 ghost use mathlib.Core.Path.{_≡_};
 ghost use mathlib.Core.Bool.{Bool, true, false};
 ghost use Prim.Native.Nat.{ℕ, _+_, _-_, _<_, _≤_};

@@ -1,4 +1,5 @@
-// Whole texts against the lines that they must print, and single groups against the replies and bit counts that are worked out by hand.
+// Whole texts against the lines that they must print, single groups against the replies and bit counts that are worked out by
+// hand, and the simulated network call by call.
 use script::LineDisplay;
 use script::run_text;
 use std::alloc::AllocError;
@@ -15,6 +16,8 @@ pub fn printed(heap: Global, text: &[u8]) -> Result<String, AllocError> {
 
 #[cfg(test)]
 mod groups;
+#[cfg(test)]
+mod networks;
 
 #[cfg(test)]
 mod tests {

@@ -11,4 +11,5 @@ returns-then-self c =
       made = tt;
       kept = λ v. v;
       lost = rw (w .answer) (sym (c .if-self .taken));
+      cable = w .cable;
     }

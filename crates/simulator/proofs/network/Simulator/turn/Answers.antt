@@ -28,4 +28,5 @@ returns c =
       bits = c .turn .ensures .bits ∙ ap (λ (xs : List Bool). moved xs (c .args .bit)) forced-bits;
       phase = c .pre;
       count = refl;
+      cable = refl;
     }
