@@ -71,7 +71,7 @@ fn data_of(heap: Global, writes: &[Write], bits: &[bool]) -> Result<Vec<u8>, Hos
 }
 
 // The command bytes of a group: a control word for each order as given, then one data command.
-pub fn encode(heap: Global, orders: &[Order], bits: &[bool]) -> Result<Vec<u8>, HostFault> {
+pub(crate) fn encode(heap: Global, orders: &[Order], bits: &[bool]) -> Result<Vec<u8>, HostFault> {
     if orders.is_empty() {
         return Err(HostFault::Refused(Refusal::NothingChosen));
     }

@@ -4,7 +4,6 @@ mod encoder;
 mod fault;
 mod group;
 
-pub use encoder::encode;
 pub use fault::HostFault;
 pub use fault::HostFaultFromAlloc;
 pub use fault::HostFaultFromRefusal;

@@ -5,8 +5,4 @@ mod path;
 mod plan;
 mod run;
 
-pub use path::path_len;
-pub use plan::Plan;
-pub use plan::Wanted;
-pub use run::configure;
 pub use run::run_group;

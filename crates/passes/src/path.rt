@@ -26,6 +26,6 @@ fn sib_len(plan: &Plan, pass: u8, number: usize, bottom: usize) -> u64 {
 }
 
 // How many cells the active path has while a pass shifts.
-pub fn path_len(plan: &Plan, pass: u8) -> u64 {
+pub(crate) fn path_len(plan: &Plan, pass: u8) -> u64 {
     section_len(plan, pass, plan.records.len(), 0)
 }

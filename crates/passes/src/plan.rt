@@ -5,7 +5,7 @@ use table::counts_excluded;
 
 // Which instruments a run wants.
 #[derive(Clone, Copy)]
-pub enum Wanted {
+pub(crate) enum Wanted {
     // The chosen ones that are not excluded.
     Chosen,
     // All that are not excluded.
@@ -16,10 +16,10 @@ pub enum Wanted {
 
 // Passes count from 1 to `depth`, the greatest depth of a wanted instrument; the pass after the last of them is the data pass.
 #[derive(Clone, Copy)]
-pub struct Plan<'a> {
-    pub records: &'a [Record],
-    pub wanted: Wanted,
-    pub depth: u8,
+pub(crate) struct Plan<'a> {
+    pub(crate) records: &'a [Record],
+    pub(crate) wanted: Wanted,
+    pub(crate) depth: u8,
 }
 
 // Whether the record is of an instrument that is wanted.
@@ -38,7 +38,7 @@ fn is_wanted(records: &[Record], wanted: Wanted, number: usize) -> bool {
 }
 
 impl<'a> Plan<'a> {
-    pub fn new(records: &'a [Record], wanted: Wanted) -> Plan<'a> {
+    pub(crate) fn new(records: &'a [Record], wanted: Wanted) -> Plan<'a> {
         let mut depth = 0;
         for (i, record) in records.iter().enumerate() {
             if is_wanted(records, wanted, i + 1) {
@@ -52,12 +52,12 @@ impl<'a> Plan<'a> {
         }
     }
 
-    pub fn wants(&self, number: usize) -> bool {
+    pub(crate) fn wants(&self, number: usize) -> bool {
         is_wanted(self.records, self.wanted, number)
     }
 
     // How many SIBs stand behind this one: the deeper ones among the next lower numbers.
-    pub fn behind(&self, number: usize) -> usize {
+    pub(crate) fn behind(&self, number: usize) -> usize {
         if number == 0 || number > self.records.len() {
             return 0;
         }
@@ -71,7 +71,7 @@ impl<'a> Plan<'a> {
     }
 
     // A doorway is needed when a wanted instrument stands behind it.
-    pub fn needs(&self, number: usize) -> bool {
+    pub(crate) fn needs(&self, number: usize) -> bool {
         if number == 0 || number > self.records.len() {
             return false;
         }
@@ -91,12 +91,12 @@ impl<'a> Plan<'a> {
     }
 
     // What a SIB on the path gets in a pass. An instrument that opened before the last configuration pass would be written by it.
-    pub fn bit(&self, pass: u8, number: usize) -> bool {
+    pub(crate) fn bit(&self, pass: u8, number: usize) -> bool {
         self.needs(number) || (self.wants(number) && pass >= self.depth)
     }
 
     // Whether a SIB is open while a pass shifts.
-    pub fn is_open(&self, pass: u8, number: usize) -> bool {
+    pub(crate) fn is_open(&self, pass: u8, number: usize) -> bool {
         if number == 0 || number > self.records.len() {
             return false;
         }
@@ -105,7 +105,7 @@ impl<'a> Plan<'a> {
     }
 
     // How deep the next lower number may stand to be on the path, where this SIB is on it.
-    pub fn reach(&self, pass: u8, number: usize) -> u16 {
+    pub(crate) fn reach(&self, pass: u8, number: usize) -> u16 {
         if number == 0 || number > self.records.len() {
             return 0;
         }

@@ -23,7 +23,7 @@ fn configuration_pass<S: Scan>(scan: &mut S, plan: &Plan, pass: u8) -> Result<u6
 }
 
 // Resets the network and opens the way to the wanted instruments; answers how many bits it shifted.
-pub fn configure<S: Scan>(scan: &mut S, plan: &Plan) -> Result<u64, ScanFault> {
+fn configure<S: Scan>(scan: &mut S, plan: &Plan) -> Result<u64, ScanFault> {
     scan.reset()?;
     let mut shifted: u64 = 0;
     for level in 0..plan.depth {

@@ -19,7 +19,7 @@ use translator::control;
 use translator::data;
 
 #[derive(Drop)]
-pub struct Die {
+pub(crate) struct Die {
     records: Vec<Record>,
     network: Simulator,
     reply: Vec<u8>,
@@ -31,7 +31,7 @@ const INSTRUMENTS: usize = 3;
 const MOST_REPLY: usize = 8;
 
 impl Die {
-    pub fn new(heap: Global) -> Result<Die, HostFault> {
+    pub(crate) fn new(heap: Global) -> Result<Die, HostFault> {
         let mut records = vec![in heap; Record::instrument(1, 8); INSTRUMENTS]?;
         let inverts = Setting {
             offer: Offer::Inverts,
@@ -62,7 +62,7 @@ impl Die {
         })
     }
 
-    pub fn records(&self) -> &[Record] {
+    pub(crate) fn records(&self) -> &[Record] {
         self.records.as_slice()
     }
 
@@ -91,7 +91,7 @@ impl Die {
     }
 
     // Has the translator carry out all commands; answers the reply of the last.
-    pub fn reply_to(&mut self, heap: Global, commands: &[u8]) -> Result<Vec<u8>, HostFault> {
+    pub(crate) fn reply_to(&mut self, heap: Global, commands: &[u8]) -> Result<Vec<u8>, HostFault> {
         let mut rest = commands;
         let mut length: usize = 0;
         for _ in 0..commands.len() {

@@ -4,7 +4,6 @@ mod die;
 mod line;
 mod session;
 
-pub use die::Die;
 pub use line::Line;
 pub use line::LineDisplay;
 pub use session::MOST_TEXT;

@@ -27,7 +27,7 @@ fn note(stuck: &mut Vec<StuckPlace>, cell: Option<StuckPlace>)
 }
 
 // Fills an empty path with what the sites on it offer, and lists its stuck cells.
-pub fn gather(sites: &Vec<Site>, path: &mut Ring, stuck: &mut Vec<StuckPlace>)
+pub(crate) fn gather(sites: &Vec<Site>, path: &mut Ring, stuck: &mut Vec<StuckPlace>)
     requires empty { ⌜ (vec-items (now path .bits) ≡ []) × (now path .head ≡ 0) × (vec-items (now stuck) ≡ []) ⌝ }
     requires room { ⌜ (all-cells (vec-items (now sites)) ≤ vec-cap (now path .bits)) × (vec-len (now sites) ≤ vec-cap (now stuck)) ⌝ }
     ensures bits { λ _. ⌜ vec-items (now (path .exit) .bits) ≡ path-offered (meanings (vec-items (now (sites .entry)))) ⌝ }
@@ -48,7 +48,7 @@ pub fn gather(sites: &Vec<Site>, path: &mut Ring, stuck: &mut Vec<StuckPlace>)
 }
 
 // Deals the path's bits out to the sites on it.
-pub fn deal(sites: &mut Vec<Site>, bits: &[bool], latches: bool)
+pub(crate) fn deal(sites: &mut Vec<Site>, bits: &[bool], latches: bool)
     requires { ⌜ length (now bits) ≡ length (path-flaws (meanings (vec-items (now sites)))) ⌝ }
     ensures len { λ _. ⌜ vec-len (now (sites .exit)) ≡ vec-len (now (sites .entry)) ⌝ }
     ensures cells { λ _. ⌜ all-cells (vec-items (now (sites .exit))) ≡ all-cells (vec-items (now (sites .entry))) ⌝ }
@@ -65,7 +65,7 @@ pub fn deal(sites: &mut Vec<Site>, bits: &[bool], latches: bool)
 }
 
 // Closes every latch.
-pub fn close_all(sites: &mut Vec<Site>)
+pub(crate) fn close_all(sites: &mut Vec<Site>)
     ensures len { λ _. ⌜ vec-len (now (sites .exit)) ≡ vec-len (now (sites .entry)) ⌝ }
     ensures cells { λ _. ⌜ all-cells (vec-items (now (sites .exit))) ≡ all-cells (vec-items (now (sites .entry))) ⌝ }
     ensures sites { λ _. ⌜ meanings (vec-items (now (sites .exit))) ≡ reset (meanings (vec-items (now (sites .entry)))) ⌝ }
@@ -76,7 +76,7 @@ pub fn close_all(sites: &mut Vec<Site>)
 }
 
 // Has every stuck cell of the path show its bit.
-pub fn force_all(path: &mut Ring, stuck: &Vec<StuckPlace>)
+pub(crate) fn force_all(path: &mut Ring, stuck: &Vec<StuckPlace>)
     ensures bits { λ _. ⌜ round (vec-items (now (path .exit) .bits)) (now (path .exit) .head) ≡ forced (round (vec-items (now (path .entry) .bits)) (now (path .entry) .head)) (vec-items (now (stuck .entry))) ⌝ }
     ensures len { λ _. ⌜ vec-len (now (path .exit) .bits) ≡ vec-len (now (path .entry) .bits) ⌝ }
     ensures room { λ _. ⌜ vec-cap (now (path .exit) .bits) ≡ vec-cap (now (path .entry) .bits) ⌝ }

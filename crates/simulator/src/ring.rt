@@ -11,22 +11,22 @@ use std::alloc::AllocError;
 use std::alloc::Global;
 
 #[derive(Drop)]
-pub struct Ring {
-    pub bits: Vec<bool>,
-    pub head: usize,
+pub(crate) struct Ring {
+    pub(crate) bits: Vec<bool>,
+    pub(crate) head: usize,
     ghost inside: { head ≤ vec-len bits },
 }
 
 impl Ring {
     // An empty ring with room for a number of bits.
-    pub fn new(heap: Global, room: usize) -> Result<Ring, AllocError>
+    pub(crate) fn new(heap: Global, room: usize) -> Result<Ring, AllocError>
         ensures { λ r. ⌜ made r (λ s. (vec-items (s .bits) ≡ []) × (s .head ≡ 0) × (room ≤ vec-cap (s .bits))) ⌝ }
     {
         let bits = Vec::with_capacity(heap, room)?;
         Ok(Ring { bits, head: 0 })
     }
 
-    pub fn clear(&mut self)
+    pub(crate) fn clear(&mut self)
         ensures bits { λ _. ⌜ vec-items (now (self .exit) .bits) ≡ [] ⌝ }
         ensures len { λ _. ⌜ vec-len (now (self .exit) .bits) ≡ 0 ⌝ }
         ensures head { λ _. ⌜ now (self .exit) .head ≡ 0 ⌝ }
@@ -37,7 +37,7 @@ impl Ring {
     }
 
     // One bit more at the end of a ring that is not turned.
-    pub fn append(&mut self, bit: bool)
+    pub(crate) fn append(&mut self, bit: bool)
         requires { ⌜ vec-len (now self .bits) < vec-cap (now self .bits) ⌝ }
         ensures bits { λ _. ⌜ vec-items (now (self .exit) .bits) ≡ vec-items (now (self .entry) .bits) ++ bit ∷ [] ⌝ }
         ensures len { λ _. ⌜ vec-len (now (self .exit) .bits) ≡ vec-len (now (self .entry) .bits) + 1 ⌝ }
@@ -48,7 +48,7 @@ impl Ring {
     }
 
     // Puts the first bit first, so that the bits can be read in order.
-    pub fn straighten(&mut self)
+    pub(crate) fn straighten(&mut self)
         ensures bits { λ _. ⌜ vec-items (now (self .exit) .bits) ≡ round (vec-items (now (self .entry) .bits)) (now (self .entry) .head) ⌝ }
         ensures len { λ _. ⌜ vec-len (now (self .exit) .bits) ≡ vec-len (now (self .entry) .bits) ⌝ }
         ensures head { λ _. ⌜ now (self .exit) .head ≡ 0 ⌝ }
@@ -60,7 +60,7 @@ impl Ring {
     }
 
     // Moves a bit in at the end; the first comes out.
-    pub fn turn(&mut self, bit: bool) -> bool
+    pub(crate) fn turn(&mut self, bit: bool) -> bool
         ensures out { λ r. ⌜ r ≡ first (round (vec-items (now (self .entry) .bits)) (now (self .entry) .head)) bit ⌝ }
         ensures bits { λ _. ⌜ round (vec-items (now (self .exit) .bits)) (now (self .exit) .head) ≡ moved (round (vec-items (now (self .entry) .bits)) (now (self .entry) .head)) bit ⌝ }
         ensures len { λ _. ⌜ vec-len (now (self .exit) .bits) ≡ vec-len (now (self .entry) .bits) ⌝ }
@@ -81,7 +81,7 @@ impl Ring {
     }
 
     // Has a place, counted from the first bit, show a bit.
-    pub fn force(&mut self, place: usize, bit: bool)
+    pub(crate) fn force(&mut self, place: usize, bit: bool)
         ensures bits { λ _. ⌜ round (vec-items (now (self .exit) .bits)) (now (self .exit) .head) ≡ set (round (vec-items (now (self .entry) .bits)) (now (self .entry) .head)) place bit ⌝ }
         ensures len { λ _. ⌜ vec-len (now (self .exit) .bits) ≡ vec-len (now (self .entry) .bits) ⌝ }
         ensures room { λ _. ⌜ vec-cap (now (self .exit) .bits) ≡ vec-cap (now (self .entry) .bits) ⌝ }

@@ -12,7 +12,7 @@ pub enum Offer {
 }
 
 #[derive(Clone, Copy)]
-pub enum Phase {
+pub(crate) enum Phase {
     Rest,
     Scan,
     Broken,
@@ -47,20 +47,20 @@ pub enum NetworkFault {
 
 // A cell of a path, by its place from the first on, that always shows the same bit.
 #[derive(Clone, Copy)]
-pub struct StuckPlace {
-    pub place: usize,
-    pub bit: bool,
+pub(crate) struct StuckPlace {
+    pub(crate) place: usize,
+    pub(crate) bit: bool,
 }
 
 #[derive(Drop)]
-pub struct Site {
-    pub kind: Kind,
-    pub depth: u8,
-    pub offer: Offer,
-    pub fault: Option<Stuck>,
-    pub latch: bool,
-    pub cell: bool,
-    pub row: Vec<bool>,
-    pub held: Vec<bool>,
+pub(crate) struct Site {
+    pub(crate) kind: Kind,
+    pub(crate) depth: u8,
+    pub(crate) offer: Offer,
+    pub(crate) fault: Option<Stuck>,
+    pub(crate) latch: bool,
+    pub(crate) cell: bool,
+    pub(crate) row: Vec<bool>,
+    pub(crate) held: Vec<bool>,
     ghost even: { vec-len held ≡ vec-len row },
 }

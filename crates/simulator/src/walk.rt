@@ -29,7 +29,7 @@ impl Offer {
 
 impl Site {
     // Whether it is an open instrument, whose row is then on the path with it.
-    pub fn is_live(&self) -> bool
+    pub(crate) fn is_live(&self) -> bool
         ensures { λ r. ⌜ r ≡ live (meaning (now (self .entry))) ⌝ }
     {
         match self.kind {
@@ -39,7 +39,7 @@ impl Site {
     }
 
     // How deep a SIB below it may stand to be on the path.
-    pub fn reach(&self) -> u16
+    pub(crate) fn reach(&self) -> u16
         ensures { λ r. ⌜ ((before : ℕ) → now (self .entry) .depth ≤ before → r ≡ reach-after before (meaning (now (self .entry)) .build) (now (self .entry) .latch)) ⌝ }
     {
         match self.kind {
@@ -48,14 +48,14 @@ impl Site {
         }
     }
 
-    pub fn close(&mut self)
+    pub(crate) fn close(&mut self)
         ensures { λ _. ⌜ meaning (now (self .exit)) ≡ closed (meaning (now (self .entry))) ⌝ }
     {
         self.latch = false;
     }
 
     // Adds what it offers to a path that is captured.
-    pub fn offer_onto(&self, path: &mut Ring)
+    pub(crate) fn offer_onto(&self, path: &mut Ring)
         requires { ⌜ vec-len (now path .bits) + length (flaws-of (meaning (now self))) ≤ vec-cap (now path .bits) ⌝ }
         ensures bits { λ _. ⌜ vec-items (now (path .exit) .bits) ≡ vec-items (now (path .entry) .bits) ++ offered (meaning (now (self .entry))) ⌝ }
         ensures len { λ _. ⌜ vec-len (now (path .exit) .bits) ≡ vec-len (now (path .entry) .bits) + length (flaws-of (meaning (now (self .entry)))) ⌝ }
@@ -71,7 +71,7 @@ impl Site {
     }
 
     // Its stuck cell, where the SIB's own cell has this place on the path and its row is on the path with it.
-    pub fn stuck_on(&self, place: usize) -> Option<StuckPlace>
+    pub(crate) fn stuck_on(&self, place: usize) -> Option<StuckPlace>
         requires { ⌜ place + length (flaws-of (meaning (now self))) < 2 ^ 64 ⌝ }
         ensures { λ r. ⌜ listOf r ≡ stuck-at place (now (self .entry)) ⌝ }
     {
@@ -123,7 +123,7 @@ impl Site {
     }
 
     // Takes its part of a path's bits, and is updated by them where they are latched.
-    pub fn deal(&mut self, bits: &[bool], at: usize, latches: bool) -> usize
+    pub(crate) fn deal(&mut self, bits: &[bool], at: usize, latches: bool) -> usize
         requires { ⌜ at + length (flaws-of (meaning (now self))) ≤ length (now bits) ⌝ }
         ensures site { λ _. ⌜ meaning (now (self .exit)) ≡ dealt latches (meaning (now (self .entry))) (drop at (now (bits .entry))) ⌝ }
         ensures next { λ r. ⌜ r ≡ at + length (flaws-of (meaning (now (self .entry)))) ⌝ }
