@@ -1,5 +1,7 @@
 // Single bits of a row of bytes. This crate alone knows the order of bits in a byte: from the high end.
 // It promises that a bit is read where it stands in the row, and that a stored bit changes that place alone.
+#![tactic(auto)]
+
 ghost use Rattle.std.specs.Prelude.{◌≡◌, ℕ, ◌+◌, ◌-◌, ◌*◌, ◌<◌, Bool, true, false, length, is_some};
 ghost use Rattle.bits.specs.Place.{next_place, skipped, FlatAfter};
 ghost use Rattle.bits.specs.Order.{weight, bit_at, with_bit, has_place, taken, stored, ReadsItsPlace, ChangesItsPlace};

@@ -1,5 +1,7 @@
 // The bytes of commands: read one after the other, and written word by word.
 // The reader says which command comes next, which bytes are its data and what is left; the format is in specs/Words.antt.
+#![tactic(auto)]
+
 ghost use Rattle.std.specs.Prelude.{◌≡◌, ℕ, ◌+◌, ◌-◌, ◌*◌, ◌<◌, ◌≤◌, Bool, true, false, length, if◌then◌else◌, Some, None, nat_le};
 ghost use Rattle.command.specs.Words.{word_of, control_word, data_word, fits_control, following, bytes_of, Reads, Gives};
 

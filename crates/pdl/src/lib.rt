@@ -1,6 +1,8 @@
 // Reads the statements of a PDL text: `iWrite iN 0bDDD;`, `iGet iN;` and `iApply;`, with blanks between them.
 // It promises that what it answers is what the bytes spell, that every part points into the text, and that it
 // refuses only where no statement stands.
+#![tactic(auto)]
+
 ghost use Rattle.std.specs.Prelude.{◌≡◌, ℕ, ◌^◌, ◌<◌, List, ◌++◌};
 ghost use Rattle.std.specs.Option.{SomeIff};
 ghost use Rattle.pdl.specs.Text.{blank, digit, AllOf, Stops, Blanks, Gives, Shorter, decimal};

@@ -1,4 +1,6 @@
 // Reads a text of statements from standard input, runs it on the simulated die, and prints what went out and what came back.
+#![tactic(auto)]
+
 use script::{MOST_TEXT, run_text};
 use std::io::Read;
 

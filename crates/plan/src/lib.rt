@@ -1,4 +1,6 @@
 // What a run wants, which SIBs it opens for that and when, and how long the path is while a pass shifts.
+#![tactic(auto)]
+
 mod length;
 mod visit;
 mod wanted;

@@ -1,5 +1,7 @@
 // Every answer that says no, as an enum with the values that belong to it.
 // Two definitions in specs/Numbers.antt give each case its number and the value that it carries; `number` and `detail` answer them.
+#![tactic(auto)]
+
 ghost use Rattle.std.specs.Prelude.{◌≡◌};
 ghost use Rattle.refusal.specs.Numbers.{refusal_number, table_number, scan_number, refusal_detail};
 ghost use Rattle.refusal.specs.declared.Refusal.TheVariants.{Table, Scan};

@@ -1,5 +1,7 @@
 // The reply of a group: how long it is, its list of excluded numbers and its trailer.
 // `measure` promises the size of every part, for every table that passes its test.
+#![tactic(auto)]
+
 ghost use Rattle.std.specs.Prelude.{◌≡◌, ℕ, ◌+◌, ◌-◌, ◌*◌, ◌^◌, ◌<◌, ◌≤◌, Bool, true, false, not, ◌&&◌, length, if◌then◌else◌};
 ghost use Rattle.refusal.specs.Checks.{answered};
 ghost use Rattle.table.specs.Rules.{table_fault};

@@ -1,5 +1,7 @@
 // Retargeting: which latches a run opens, the string of bits of each of its passes, and what the run does to a network.
 // Definitions stand in specs/; the laws of them are promised here, each by a function.
+#![tactic(auto)]
+
 ghost use Rattle.retarget.specs.Wants.{NeededLeadsToWanted};
 ghost use Rattle.retarget.specs.Laws.{WalkByShapes, StringNamesItsCells, ConfigurationOpensTheWay, RunWritesAndReads};
 ghost use Rattle.retarget.specs.Cases.{WorkedStrings};

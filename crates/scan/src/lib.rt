@@ -1,5 +1,7 @@
 // A scan transport: whatever carries single bits to and from a network of SIBs and instruments.
 // A transport means a network (specs/Network.antt); each call says by its contract what it does to that network.
+#![tactic(auto)]
+
 ghost use Rattle.refusal.specs.declared.Loss.{Loss};
 ghost use Rattle.scan.specs.Network.{Network, Fits, Each};
 ghost use Rattle.scan.specs.Calls.{Resets, Captures, Shifts, Updates, Once};

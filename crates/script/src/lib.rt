@@ -1,5 +1,7 @@
 // Runs a text of statements on a simulated die, from the bytes of the text to the lines that a program prints.
 // So far its functions are proved to be safe and to end, and the lines of many texts are tested.
+#![tactic(auto)]
+
 mod die;
 mod line;
 mod session;

@@ -3,6 +3,8 @@
 // call does to it what the `Scan` contract says, and a call is lost exactly when the cable is out.
 // A shift costs the same however long the path is, and a step more for each stuck cell on it: between a capture and an update
 // the path's cells stand in a ring.
+#![tactic(auto)]
+
 mod calls;
 mod dealing;
 mod making;

@@ -1,6 +1,8 @@
 // The SIB table: its records, its rules, and the marks on them.
 // It promises which fault the test of a table answers, for every table (specs/Rules.antt), and the table afterwards, to the last
 // mark, of whatever changes marks (specs/Marks.antt).
+#![tactic(auto)]
+
 ghost use Rattle.std.specs.Prelude.{◌≡◌, ℕ, ◌+◌, ◌-◌, ◌<◌, ◌≤◌, Bool, true, false, List, map, Some, None};
 ghost use Rattle.refusal.specs.Checks.{answered, left, first_failing};
 ghost use Rattle.table.specs.Rules.{fits, floor_under, highest_broken, table_fault, SaysOfTable};

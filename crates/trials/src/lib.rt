@@ -1,5 +1,7 @@
 // Whole texts against the lines that they must print, single groups against the replies and bit counts that are worked out by
 // hand, and the simulated network call by call.
+#![tactic(auto)]
+
 use script::run_text;
 use std::alloc::{AllocError, Global};
 

@@ -7,7 +7,7 @@ use Rattle.pdl.proofs.next_statement.Goals as goal
 pub returns-in-Some : goal.returns-in-Some
 returns-in-Some c =
     let text = c.args.text.now in
-    let after = c.skip-blanks-after.result.now in
+    let after = c.skip_blanks-after.result.now in
     let s = spoken c.in-Some.next.statement in
     let rest = c.in-Some.next.rest.now in
     let first : stated after ≡ Some (s, rest) = cc c.in-Some.ensures in
@@ -18,7 +18,7 @@ returns-in-Some c =
 pub returns-in-None : goal.returns-in-None
 returns-in-None c =
     let text = c.args.text.now in
-    let after = c.skip-blanks-after.result.now in
+    let after = c.skip_blanks-after.result.now in
     let some : length after ≡ 0 → ⊥ = search rules in
     let first : stated after ≡ None = cc c.in-None.ensures in
     let same : reading text ≡ wrong = cc (begun_wrong after some first) in

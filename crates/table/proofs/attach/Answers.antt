@@ -6,10 +6,10 @@ use Rattle.table.specs.Marks.{unmarked}
 use Rattle.table.proofs.Over.{over_more, over_all}
 use Rattle.table.proofs.attach.Goals as goal
 
-pub returns-in-err-check-table : goal.returns-in-err-check-table
-returns-in-err-check-table c =
-    let p = err_from_is_err_and c.from-residual.result c.from-residual.ensures.1 in
-    let no = refused_by tt (table_fault c.args.records.now) c.in-err-check-table.ensures.value in
+pub returns-in_err-check_table : goal.returns-in_err-check_table
+returns-in_err-check_table c =
+    let p = err_from_is_err_and c.from_residual.result c.from_residual.ensures.1 in
+    let no = refused_by tt (table_fault c.args.records.now) c.in_err-check_table.ensures.value in
     record { value = rw (p.1, p.2, no); after = rw no }
 
 pub loop-record-preserved : goal.loop-record-preserved
@@ -19,7 +19,7 @@ loop-record-preserved c =
 
 pub returns : goal.returns
 returns c =
-    let ok : table_fault c.args.records.now ≡ None = none_refused tt _ c.in-ok-check-table.ensures.value in
+    let ok : table_fault c.args.records.now ≡ None = none_refused tt _ c.in_ok-check_table.ensures.value in
     record {
       value = rw ok;
       after = rw ok (over_all unmarked c.args.records.now c.loop-record.records c.loop-record.record-index c.loop-record-test.false c.loop-record.invariant);

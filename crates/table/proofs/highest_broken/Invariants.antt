@@ -5,4 +5,4 @@ use Rattle.table.proofs.highest_broken.Given as goal
 
 -- what is left gives the answer
 abbrev pub invariant-loop-i : goal.invariant-loop-i
-invariant-loop-i l = left_of l.i l.depth-before l.broken (drop l.i l.records) ≡ highest_broken 1 l.records
+invariant-loop-i l = left_of l.i l.depth_before l.broken (drop l.i l.records) ≡ highest_broken 1 l.records
