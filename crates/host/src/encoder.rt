@@ -26,7 +26,7 @@ fn writes_of(heap: Global, orders: &[Order]) -> Result<Vec<Write>, HostFault> {
             })?;
         }
     }
-    writes.sort();
+    writes.sort_unstable();
     Ok(writes)
 }
 

@@ -8,12 +8,12 @@ loop-i-preserved c =
     let rs = c.args.records.now in
     let i = c.loop-i.i in
     let inv = c.loop-i.invariant in
-    let x = c.counts-excluded.ensures in
-    let chosen = c.counts-of-one.ensures.chosen in
-    let sent = c.counts-of-one.ensures.sent in
-    let kept = c.counts-of-one.ensures.kept in
-    let listed = c.counts-of-one.ensures.listed in
-    let bound = c.counts-of-one.ensures.bound in (
+    let x = c.counts_excluded.ensures in
+    let chosen = c.counts_of-one.ensures.chosen in
+    let sent = c.counts_of-one.ensures.sent in
+    let kept = c.counts_of-one.ensures.kept in
+    let listed = c.counts_of-one.ensures.listed in
+    let bound = c.counts_of-one.ensures.bound in (
       total_next (chosen_at rs) i _ _ inv.0 (chosen ∙ chosen_next rs i),
       total_next (sent_at rs) i _ _ inv.1 (sent ∙ sent_next rs i),
       total_next (kept_at rs) i _ _ inv.2 (kept ∙ kept_next rs i _ x),

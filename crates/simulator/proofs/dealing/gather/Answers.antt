@@ -10,8 +10,8 @@ pub loop-site-init : goal.loop-site-init
 loop-site-init c =
     gathered_none _ _ _ _ _ _ _ _ c.requires.empty.0 (search rules) c.requires.empty.2 (search rules) c.requires.empty.1 c.requires.room.0 (search rules)
 
-pub offer-onto-requires : goal.offer-onto-requires
-offer-onto-requires c =
+pub offer_onto-requires : goal.offer_onto-requires
+offer_onto-requires c =
     gathered_room c.loop-site.invariant (drop_item _ _ c.loop-site.site-index c.site-item.result c.deref-site-items.ensures.value c.loop-site-test.true c.site-item.is)
 
 pub note-requires : goal.note-requires
@@ -26,8 +26,8 @@ loop-site-preserved c =
           rw (w.reach-is, w.path-is, w.stuck-is)
           (gathered_on _ _ _ _ _ _ _ _ _ _ _ _ _ _ _ _ _ _ _ _ c.site-item.result c.loop-site.invariant next w.if-site-reach.true
           (w.reach-reach.ensures c.loop-site.reach w.if-site-reach.true)
-          w.offer-onto.ensures.bits w.offer-onto.ensures.len w.offer-onto.ensures.head w.offer-onto.ensures.room
-          (w.note.ensures.cells ∙ ap (λ (cs : List StuckPlace). vec_items c.loop-site.stuck ++ cs) (w.stuck-on.ensures ∙ ap (λ (n : ℕ). stuck_at n c.site-item.result) w.len-place.ensures))
+          w.offer_onto.ensures.bits w.offer_onto.ensures.len w.offer_onto.ensures.head w.offer_onto.ensures.room
+          (w.note.ensures.cells ∙ ap (λ (cs : List StuckPlace). vec_items c.loop-site.stuck ++ cs) (w.stuck_on.ensures ∙ ap (λ (n : ℕ). stuck_at n c.site-item.result) w.len-place.ensures))
           w.note.ensures.len w.note.ensures.room)
       | else-site-reach w ↦
           rw (w.reach-is, w.path-is, w.stuck-is)

@@ -9,7 +9,7 @@ loop-i-preserved c =
     let rs = c.args.records.now in
     let more : bits_in (drop c.loop-i.i rs) ≡ (get_or rs c.loop-i.i blank).length + bits_in (drop (c.loop-i.i + 1) rs) =
     at_drop_more bits_in rs c.loop-i.i blank c.loop-i-test.true in
-    (omega (arith, c.loop-i.invariant.0), omega arith, below_more _ _ c.loop-i.invariant.2 (sym c.if-not-lies-in.ensures))
+    (omega (arith, c.loop-i.invariant.0), omega arith, below_more _ _ c.loop-i.invariant.2 (sym c.if-not-lies_in.ensures))
 
 pub returns : goal.returns
 returns c =

@@ -15,8 +15,8 @@ returns-then-self c =
 pub returns : goal.returns
 returns c =
     record {
-      did = λ _. captured_law _ _ c.in-Rest.is c.fill-path.ensures;
+      did = λ _. captured_law _ _ c.in-Rest.is c.fill_path.ensures;
       kept = λ v. v;
       lost = sym c.if-self.false;
-      cable = c.fill-path.ensures.cable;
+      cable = c.fill_path.ensures.cable;
     }

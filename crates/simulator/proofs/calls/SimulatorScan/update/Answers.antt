@@ -15,8 +15,8 @@ returns-then-self c =
 pub returns : goal.returns
 returns c =
     record {
-      did = λ _. updated_law _ _ c.in-Scan.is c.empty-path.ensures;
+      did = λ _. updated_law _ _ c.in-Scan.is c.empty_path.ensures;
       kept = λ v. v;
       lost = sym c.if-self.false;
-      cable = c.empty-path.ensures.cable;
+      cable = c.empty_path.ensures.cable;
     }

@@ -16,7 +16,7 @@ returns c =
     let listed : stuck_places 0 flaws ≡ vec_items s.stuck = rw c.requires at s.listed in
     let cells : length flaws ≡ vec_len s.path.bits = rw c.requires at s.cells in
     let long : length before ≡ length flaws = length_round (vec_items s.path.bits) s.path.head ∙ sym s.path.bits.ok.0 ∙ sym cells in
-    let forced-bits = c.force-all.ensures.bits ∙ ap (forced before) (sym listed) ∙ forced_is_shown flaws before long in
+    let forced-bits = c.force_all.ensures.bits ∙ ap (forced before) (sym listed) ∙ forced_is_shown flaws before long in
     record {
       sites = refl;
       answer = c.turn.ensures.out ∙ ap (λ (xs : List Bool). first xs c.args.bit) forced-bits;

@@ -4,7 +4,7 @@ use Rattle.simulator.proofs.site.Site.offer_onto.Goals as goal
 
 pub append-requires-in-loop-held : goal.append-requires-in-loop-held
 append-requires-in-loop-held c =
-    let size = part_live c.args.self.now (sym c.if-is-live.ensures) in
+    let size = part_live c.args.self.now (sym c.if-is_live.ensures) in
     let even = c.args.self.now.even in
     let long = c.deref-held-items.ensures.len in
     let row = c.args.self.now.row.ok.0 in
@@ -22,7 +22,7 @@ loop-held-preserved c = (
 pub returns-after-loop-held : goal.returns-after-loop-held
 returns-after-loop-held c =
     let s = c.args.self.now in
-    let live = sym c.if-is-live.ensures in
+    let live = sym c.if-is_live.ensures in
     let size = part_live s live in
     let even = s.even in
     let long = c.deref-held-items.ensures.len in
