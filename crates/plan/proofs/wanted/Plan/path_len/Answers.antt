@@ -16,5 +16,5 @@ returns c formed =
     let shapes : map shape_in all ≡ plan_shapes p n = map_down shape_in (seen_at p pass) n in
     let latches = map_down latch_in (seen_at p pass) n ∙ sym (opened_down p pass n) in
     let counted = section_span 1 false 0 all (subst (Formed 1) (sym shapes) formed) (λ _. omega arith) in
-    c.section-len.ensures
+    c.section_len.ensures
     ∙ ap (λ (k : ℕ). k % 2 ^ 64) (ap (section false 0) (seen_all p pass n) ∙ counted ∙ ap₂ (span 1) shapes latches)
