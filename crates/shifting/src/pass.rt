@@ -19,8 +19,8 @@ pub(crate) fn pass<S: Scan>(
     sent: &[u8],
     body: &mut [u8],
 ) -> Result<u64, ScanFault>
-    ensures did { PassesTest (table_of plan.now) → valid scan.old → (network scan.old).phase ≡ rest → PassDoes losses (network scan.old) (string_of plan.now (row_bits sent.now) pass) (sieve_of plan.now (row_bits sent.now) pass) (row_bits body.old) result (network scan.new) (row_bits body.new) }
-    ensures kept { valid scan.old → valid scan.new }
+    ensures did { PassesTest (table_of plan.now) → S.valid scan.old → (S.network scan.old).phase ≡ rest → PassDoes S.losses (S.network scan.old) (string_of plan.now (row_bits sent.now) pass) (sieve_of plan.now (row_bits sent.now) pass) (row_bits body.old) result (S.network scan.new) (row_bits body.new) }
+    ensures kept { S.valid scan.old → S.valid scan.new }
 {
     scan.capture()?;
     let mut reach: u16 = 1;

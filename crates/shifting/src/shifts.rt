@@ -18,8 +18,8 @@ fn shift_write<S: Scan>(
     sent: &[u8],
     from: BitPlace,
 ) -> Result<(), ScanFault>
-    ensures did { valid scan.old → (network scan.old).phase ≡ in-scan → Room from cells → Feeds losses (network scan.old) (bits_from (row_bits sent.now) (flat from) cells) result (network scan.new) }
-    ensures kept { valid scan.old → valid scan.new }
+    ensures did { S.valid scan.old → (S.network scan.old).phase ≡ in-scan → Room from cells → Feeds S.losses (S.network scan.old) (bits_from (row_bits sent.now) (flat from) cells) result (S.network scan.new) }
+    ensures kept { S.valid scan.old → S.valid scan.new }
 {
     let mut at = from;
     for _k in 0..cells {
@@ -37,8 +37,8 @@ fn shift_read<S: Scan>(
     body: &mut [u8],
     to: BitPlace,
 ) -> Result<(), ScanFault>
-    ensures did { valid scan.old → (network scan.old).phase ≡ in-scan → Room to cells → Reads losses (network scan.old) (replicate cells true) (flat to) (row_bits body.old) result (network scan.new) (row_bits body.new) }
-    ensures kept { valid scan.old → valid scan.new }
+    ensures did { S.valid scan.old → (S.network scan.old).phase ≡ in-scan → Room to cells → Reads S.losses (S.network scan.old) (replicate cells true) (flat to) (row_bits body.old) result (S.network scan.new) (row_bits body.new) }
+    ensures kept { S.valid scan.old → S.valid scan.new }
 {
     let mut at = to;
     for _k in 0..cells {
@@ -58,8 +58,8 @@ pub(crate) fn shift_sib<S: Scan>(
     body: &mut [u8],
     to: BitPlace,
 ) -> Result<BitPlace, ScanFault>
-    ensures did { valid scan.old → (network scan.old).phase ≡ in-scan → Room from (cells_of visit.row) → Room to (cells_of visit.row) → VisitShifts losses (network scan.old) (visit_bits visit (row_bits sent.now) (flat from)) (visit_mask visit) (kept_cells visit.row) to (row_bits body.old) result (network scan.new) (row_bits body.new) }
-    ensures kept { valid scan.old → valid scan.new }
+    ensures did { S.valid scan.old → (S.network scan.old).phase ≡ in-scan → Room from (cells_of visit.row) → Room to (cells_of visit.row) → VisitShifts S.losses (S.network scan.old) (visit_bits visit (row_bits sent.now) (flat from)) (visit_mask visit) (kept_cells visit.row) to (row_bits body.old) result (S.network scan.new) (row_bits body.new) }
+    ensures kept { S.valid scan.old → S.valid scan.new }
 {
     let _ = scan.shift(visit.bit)?;
     match visit.row {

@@ -12,5 +12,5 @@ invariant-loop-k g l =
     let valid = g.S.Scan.valid in
     (valid l.initial.scan → valid l.scan)
     × (valid l.initial.scan → (net l.initial.scan).phase ≡ scan → Room l.initial.at l.cells
-    → (l.at.place < 8) × (flat l.at ≡ flat l.initial.at + l.-k)
-    × Keeping (net l.initial.scan) (net l.scan) (replicate l.cells true) (replicate (l.cells - l.-k) true) (row_bits l.initial.body) (row_bits l.body) (flat l.initial.at) (flat l.at) (flat l.initial.at + l.cells))
+    → (l.at.place < 8) × (flat l.at ≡ flat l.initial.at + l._k)
+    × Keeping (net l.initial.scan) (net l.scan) (replicate l.cells true) (replicate (l.cells - l._k) true) (row_bits l.initial.body) (row_bits l.body) (flat l.initial.at) (flat l.at) (flat l.initial.at + l.cells))

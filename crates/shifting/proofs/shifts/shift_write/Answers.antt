@@ -14,10 +14,10 @@ loop-k-init g c = (
   λ v p room. (room.0, omega arith, write_none _ _ _ _ p),
 )
 
-pub returns-in-err-shift : goal.returns-in-err-shift
-returns-in-err-shift g c =
-    let h = c.in-err-shift.ensures in
-    let p = err_from_is_err_and c.from-residual.result c.from-residual.ensures.1 in
+pub returns-in_err-shift : goal.returns-in_err-shift
+returns-in_err-shift g c =
+    let h = c.in_err-shift.ensures in
+    let p = err_from_is_err_and c.from_residual.result c.from_residual.ensures.1 in
     record {
       did = λ v s room. rw (p.1, p.2) (midway_fails _ _ _ _ _ _ _ (c.loop-k.invariant.1 v s room).2 (h.did (c.loop-k.invariant.0 v)));
       kept = λ v. h.kept (c.loop-k.invariant.0 v);
@@ -25,12 +25,12 @@ returns-in-err-shift g c =
 
 pub loop-k-preserved : goal.loop-k-preserved
 loop-k-preserved g c =
-    let h = c.in-ok-shift.ensures in (
+    let h = c.in_ok-shift.ensures in (
       λ v. h.kept (c.loop-k.invariant.0 v),
       λ v s room.
           let i = c.loop-k.invariant.1 v s room in
           let next = c.next-at.ensures.flat i.0 (omega (arith, i.1, room.1)) in
-          let bit = c.unwrap-or-bit.ensures ∙ ap (λ (o : Option Bool). unwrap_or o false) c.take-bit.ensures.value ∙ take_anywhere c.args.sent.now c.loop-k.at.byte c.loop-k.at.place i.0 in
+          let bit = c.unwrap_or-bit.ensures ∙ ap (λ (o : Option Bool). unwrap_or o false) c.take_bit.ensures.value ∙ take_anywhere c.args.sent.now c.loop-k.at.byte c.loop-k.at.place i.0 in
           (next.0, omega (arith, next.1, i.1), write_more g.S.Scan.losses _ _ _ _ _ _ _ _ _ _ _ c.loop-k-test.true next.1 bit i.2 (h.did (c.loop-k.invariant.0 v))),
     )
 

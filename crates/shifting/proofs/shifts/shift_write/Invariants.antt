@@ -14,5 +14,5 @@ invariant-loop-k g l =
     let row = row_bits l.sent in
     (valid l.initial.scan → valid l.scan)
     × (valid l.initial.scan → (net l.initial.scan).phase ≡ scan → Room l.initial.at l.cells
-    → (l.at.place < 8) × (flat l.at ≡ flat l.initial.at + l.-k)
-    × Midway (net l.initial.scan) (net l.scan) (bits_from row (flat l.initial.at) l.cells) (bits_from row (flat l.at) (l.cells - l.-k)))
+    → (l.at.place < 8) × (flat l.at ≡ flat l.initial.at + l._k)
+    × Midway (net l.initial.scan) (net l.scan) (bits_from row (flat l.initial.at) l.cells) (bits_from row (flat l.at) (l.cells - l._k)))

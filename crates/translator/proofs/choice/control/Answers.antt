@@ -4,13 +4,13 @@ use Rattle.refusal.proofs.Answering.{none_refused, refused_by}
 use Rattle.table.specs.Rules.{table_fault}
 use Rattle.translator.proofs.choice.control.Goals as goal
 
-pub returns-in-err-check-table : goal.returns-in-err-check-table
-returns-in-err-check-table c =
-    let p = err_from_is_err_and c.from-residual.result c.from-residual.ensures.1 in
-    let no = refused_by tt (table_fault c.args.table.now) c.in-err-check-table.ensures.value in
+pub returns-in_err-check_table : goal.returns-in_err-check_table
+returns-in_err-check_table c =
+    let p = err_from_is_err_and c.from_residual.result c.from_residual.ensures.1 in
+    let no = refused_by tt (table_fault c.args.table.now) c.in_err-check_table.ensures.value in
     record { value = rw (p.1, p.2, no); after = rw no }
 
 pub returns : goal.returns
 returns c =
-    let ok = none_refused tt (table_fault c.args.table.now) c.in-ok-check-table.ensures.value in
+    let ok = none_refused tt (table_fault c.args.table.now) c.in_ok-check_table.ensures.value in
     record { value = rw ok (search rules); after = rw ok (search rules) }
