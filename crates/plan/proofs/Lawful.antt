@@ -1,15 +1,15 @@
 -- What a table that passes its test gives a plan: well-formed shapes, a bounded size, and short rows.
-use Rattle.std.proofs.Common.{◌≡◌, ℕ, zero, suc, ◌+◌, ◌-◌, ◌<◌, ◌≤◌, Bool, true, false, cond, not, ◌&&◌, eqb, ltb, leb, List, [], ◌∷◌, map, length, get_or, drop, Some, None, Option, sym, refl, ap, ◌∙◌, subst, ap₂, arith, drop-cons}
+use Rattle.std.proofs.Common.{◌≡◌, ℕ, zero, suc, ◌+◌, ◌-◌, ◌≤◌, Bool, true, false, cond, ◌&&◌, eqb, leb, List, [], ◌∷◌, length, get_or, drop, Some, None, Option, sym, refl, ap, ◌∙◌, subst, arith, drop-cons}
 use Rattle.std.specs.Option.{option_map}
 use Rattle.std.proofs.lemmas.Bool.{and_parts, leb-true}
 use Rattle.std.proofs.lemmas.Bool.Decides.{nat_tests}
 use Rattle.refusal.specs.declared.TableFault.TheVariants.{Size, Broken}
 use Rattle.table.specs.declared.Record.{Record}
-use Rattle.table.specs.Rules.{blank, is_doorway, fits, depth_fits, length_fits, floor_under, floor_of, obeys, obeys_at, Lawful, size_fits, highest_broken, table_fault}
+use Rattle.table.specs.Rules.{blank, is_doorway, depth_fits, floor_under, floor_of, obeys, Lawful, size_fits, highest_broken, table_fault}
 use Rattle.table.specs.Marks.{numbered}
 use Rattle.table.proofs.Highest.{none_broken}
 use Rattle.retarget.specs.Shapes.{Formed}
-use Rattle.plan.specs.Order.{shape, shape_at, shapes}
+use Rattle.plan.specs.Order.{shape, shapes}
 
 not_broken : (o : Option ℕ) → option_map Broken o ≡ None → None ≡ o
 not_broken None e = refl

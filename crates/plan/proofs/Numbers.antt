@@ -1,16 +1,13 @@
 -- Lists that go from a number down: one step, and what a plan says of each number.
-use Rattle.std.proofs.Common.{◌≡◌, ℕ, zero, suc, ◌+◌, ◌-◌, ◌<◌, ◌≤◌, max, Bool, true, false, cond, not, ◌&&◌, ◌||◌, eqb, ltb, leb, List, [], ◌∷◌, map, length, get_or, take, drop, sym, refl, ap, ◌∙◌, ap₂, arith}
-use Rattle.std.proofs.lemmas.Bool.{cases_Bool}
-use Rattle.std.proofs.lemmas.Bool.Decides.{nat_tests}
+use Rattle.std.proofs.Common.{◌≡◌, ℕ, zero, suc, ◌+◌, ◌-◌, ◌<◌, ◌≤◌, max, Bool, true, false, cond, not, ◌&&◌, ◌||◌, leb, List, ◌∷◌, map, length, get_or, sym, refl, ap, ◌∙◌, ap₂, arith}
 use Rattle.table.specs.declared.Record.{Record}
 use Rattle.table.specs.Rules.{blank, is_doorway}
-use Rattle.table.specs.Marks.{numbered, names_sib, names_instrument}
-use Rattle.retarget.specs.Shapes.{Shape}
+use Rattle.table.specs.Marks.{numbered}
 use Rattle.retarget.specs.Wants.{wanted, found, needed, deepest, aims, opened}
 use Rattle.plan.specs.declared.wanted.Wanted.{Wanted}
 use Rattle.plan.specs.declared.wanted.Plan.{Plan}
 use Rattle.plan.specs.Order.{down, shape_at, shapes, wants, wanted_at, wanteds}
-use Rattle.plan.specs.Plans.{table_of, plan_shapes, plan_wants, wanted_in, needed_in, aim_at, open_at}
+use Rattle.plan.specs.Plans.{table_of, plan_shapes, plan_wants, needed_in, aim_at, open_at}
 
 pub down_step : {X : Type 0} (f : ℕ → X) (n : ℕ) → 1 ≤ n → down f n ≡ f n ∷ down f (n - 1)
 down_step f zero h = absurd (omega arith)

@@ -1,5 +1,5 @@
 -- The cells of a section: a SIB with those behind it, and then the rest.
-use Rattle.std.proofs.Common.{◌≡◌, ℕ, zero, suc, ◌+◌, ◌-◌, ◌%◌, ◌^◌, ◌<◌, ◌≤◌, Bool, true, false, cond, not, ◌&&◌, ltb, leb, List, [], ◌∷◌, map, length, take, drop, sym, refl, ap, ◌∙◌, ap₂, inl, inr, add_assoc, mod-eq_of_lt, zero-add, arith, ltb-true}
+use Rattle.std.proofs.Common.{◌≡◌, ℕ, zero, suc, ◌+◌, ◌-◌, ◌%◌, ◌<◌, ◌≤◌, Bool, true, false, cond, not, ◌&&◌, ltb, leb, List, [], ◌∷◌, map, take, drop, sym, refl, ap, ◌∙◌, ap₂, inl, inr, add_assoc, zero-add, arith, ltb-true}
 use native.Mathlib.Nat.{mod-add-mod, add-mod-mod}
 use Rattle.std.proofs.lemmas.List.{take-take, drop-take, take_all}
 use Rattle.std.proofs.lemmas.Bool.{cases_Bool}
@@ -8,7 +8,7 @@ use Rattle.retarget.specs.Shapes.{Shape, Formed, reach_after, sib_cells, span}
 use Rattle.plan.specs.declared.wanted.Plan.{Plan}
 use Rattle.plan.specs.Order.{down}
 use Rattle.plan.specs.Length.{Seen, hides, section, run, seen_at, seen, sib}
-use Rattle.plan.proofs.Numbers.{down_step, length_down}
+use Rattle.plan.proofs.Numbers.{length_down}
 
 -- where nothing is hidden, the depth before says nothing
 section_open : (e : ℕ) (xs : List Seen) → section false e xs ≡ section false 0 xs

@@ -1,6 +1,6 @@
 -- How long a section is: as long as its SIBs. A SIB is one cell and, when open, what stands behind it.
-use Rattle.std.specs.Prelude.{◌≡◌, ℕ, suc, ◌+◌, ◌-◌, ◌≤◌, Bool, true, false, cond, not, ◌&&◌, List, [], ◌∷◌, length, take, nat_lt}
-use Rattle.retarget.specs.Shapes.{Shape, sib_cells, Formed, span}
+use Rattle.std.specs.Prelude.{ℕ, suc, ◌+◌, ◌-◌, Bool, false, cond, not, ◌&&◌, List, [], ◌∷◌, length, take, nat_lt}
+use Rattle.retarget.specs.Shapes.{Shape, sib_cells, span}
 use Rattle.retarget.specs.Wants.{opened}
 use Rattle.plan.specs.declared.wanted.Plan.{Plan}
 use Rattle.plan.specs.Order.{down, shape_at}

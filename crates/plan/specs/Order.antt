@@ -1,11 +1,10 @@
 -- From the table's numbers to scan order: SIB N comes first, and number n stands at place N - n.
-use Rattle.std.specs.Prelude.{◌≡◌, ℕ, zero, suc, ◌+◌, Bool, true, false, cond, not, ◌&&◌, List, [], ◌∷◌, map, reverse, length, ◌==◌}
+use Rattle.std.specs.Prelude.{◌≡◌, ℕ, zero, suc, Bool, not, ◌&&◌, List, [], ◌∷◌, map, reverse, length, ◌==◌}
 use Rattle.table.specs.declared.Record.{Record}
-use Rattle.table.specs.Rules.{is_doorway, blank}
+use Rattle.table.specs.Rules.{is_doorway}
 use Rattle.table.specs.Marks.{numbered, names_instrument, is_excluded}
 use Rattle.scan.specs.Network.{Site}
 use Rattle.retarget.specs.Shapes.{Shape, shapes_of}
-use Rattle.retarget.specs.Strings.{Order, none, read, write}
 use Rattle.plan.specs.declared.wanted.Wanted.{Wanted}
 use Rattle.plan.specs.declared.wanted.Wanted.TheVariants.{Chosen, Sound, Only}
 

@@ -1,5 +1,5 @@
 -- A plan by its table: what each SIB gets in each pass.
-use Rattle.std.specs.Prelude.{◌≡◌, ℕ, zero, suc, ◌+◌, ◌≤◌, Bool, true, false, cond, not, ◌&&◌, ◌||◌, leb, List, [], ◌∷◌, length, Some, None, Option, nat_le, nat_lt}
+use Rattle.std.specs.Prelude.{◌≡◌, ℕ, zero, suc, Bool, true, false, cond, ◌&&◌, ◌||◌, leb, List, length, Some, None, Option, nat_le, nat_lt}
 use Rattle.table.specs.declared.Record.{Record}
 use Rattle.table.specs.Marks.{numbered, names_sib}
 use Rattle.retarget.specs.Shapes.{Shape, reach_after}

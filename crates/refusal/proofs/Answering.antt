@@ -1,5 +1,5 @@
 -- What an answer says of the checks before it.
-use Rattle.std.proofs.Common.{◌≡◌, Some, None, Ok, Err, Option, Result, refl}
+use Rattle.std.proofs.Common.{◌≡◌, Some, None, Ok, Err, Option, refl}
 use Rattle.refusal.specs.Checks.{answered}
 
 pub none_refused : {X E : Type 0} (x : X) {y : X} (o : Option E) → Ok y ≡ answered x o → o ≡ None

@@ -1,5 +1,5 @@
 -- Checks that run in an order: the first that fails answers.
-use Rattle.std.specs.Prelude.{Bool, true, false, cond, List, [], ◌∷◌, Some, None, Ok, Err, Option, Result}
+use Rattle.std.specs.Prelude.{Bool, cond, List, [], ◌∷◌, Some, None, Ok, Err, Option, Result}
 
 -- a check that holds where the test is true, and else refuses
 abbrev pub unless : {E : Type 0} → Bool → E → Option E

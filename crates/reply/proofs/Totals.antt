@@ -1,5 +1,5 @@
 -- Sums over numbers, one number more at a time.
-use Rattle.std.proofs.Common.{◌≡◌, ℕ, zero, suc, ◌+◌, ◌-◌, Bool, cond, not, ◌&&◌, List, get_or, add-one, arith}
+use Rattle.std.proofs.Common.{◌≡◌, ℕ, ◌+◌, ◌-◌, Bool, cond, not, ◌&&◌, List, get_or, add-one, arith}
 use Rattle.table.specs.declared.Record.{Record}
 use Rattle.table.specs.Rules.{blank}
 use Rattle.table.specs.Marks.{is_excluded}

@@ -1,5 +1,5 @@
 -- A number in a reply: two bytes, the high one first.
-use Rattle.std.specs.Prelude.{ℕ, ◌+◌, ◌/◌, ◌%◌, Bool, true, false, cond, ◌&&◌, List, length, nat_le, nat_lt, slice_set}
+use Rattle.std.specs.Prelude.{ℕ, ◌+◌, ◌/◌, ◌%◌, Bool, cond, ◌&&◌, List, length, nat_le, nat_lt, slice_set}
 
 -- there is room for a number at this place, and it has a form
 abbrev pub has_room : List ℕ → ℕ → ℕ → Bool

@@ -1,5 +1,5 @@
 -- How much a group sends and how much is replied, by the marks of the table.
-use Rattle.std.specs.Prelude.{ℕ, zero, suc, ◌+◌, ◌*◌, ◌/◌, Bool, true, false, cond, not, ◌&&◌, List, length}
+use Rattle.std.specs.Prelude.{ℕ, zero, suc, ◌+◌, ◌*◌, ◌/◌, cond, not, ◌&&◌, List, length}
 use Rattle.table.specs.declared.Record.{Record}
 use Rattle.table.specs.Marks.{numbered, is_excluded}
 use Rattle.reply.specs.declared.GroupSize.{GroupSize}

@@ -2,7 +2,7 @@
 use Rattle.std.proofs.Common.{◌≡◌, ℕ, suc, ◌≤◌, Bool, true, false, cond, not, ◌&&◌, ◌||◌, ltb, List, [], ◌∷◌, ◌++◌, map, length, drop, replicate, sym, refl, ap, ◌∙◌, subst, ap₂, arith}
 use Rattle.std.proofs.lemmas.List.{length-replicate}
 use Rattle.std.proofs.lemmas.Bool.{and_parts, or_right, ltb-true, le-leb}
-use Rattle.scan.specs.Network.{Flaw, sound, Site, latch_of, held_of, live, Fits, Each}
+use Rattle.scan.specs.Network.{Flaw, Site, latch_of, held_of, live, Fits, Each}
 use Rattle.scan.specs.Path.{on, pick, flaws_of, offered, path, SoundSibs}
 use Rattle.scan.specs.Moves.{load, spread, loaded, capture, outs}
 use Rattle.scan.proofs.Rows.{SoundRow}

@@ -8,7 +8,7 @@ use Rattle.scan.proofs.Fill.{map_reset}
 use Rattle.retarget.specs.Shapes.{Shape, shape_of, shapes_of, Formed}
 use Rattle.retarget.specs.Wants.{wanted, needed, deepest, opened}
 use Rattle.retarget.specs.Strings.{Order, none, read, write, asks, reads, word, string}
-use Rattle.retarget.specs.Runs.{stage, passes, shifted, path_lengths, kept, held_after, offer_of, offers_read}
+use Rattle.retarget.specs.Runs.{stage, passes, shifted, path_lengths, held_after, offer_of, offers_read}
 use Rattle.retarget.specs.Laws.{Apt, Stands, SoundWanted, ConfigurationOpensTheWay, Served, RunWritesAndReads}
 use Rattle.retarget.proofs.Opening.{Within, within_deepest, opened_midway, opened_done, step_reset}
 use Rattle.retarget.proofs.Keeping.{builds_stage, fits_stage}

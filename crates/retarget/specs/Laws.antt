@@ -1,10 +1,10 @@
 -- What is proved of strings and runs. ps are the shapes that the table has, os the orders.
-use Rattle.std.specs.Prelude.{◌≡◌, ℕ, zero, suc, ◌+◌, ◌<◌, ◌≤◌, Bool, true, false, cond, not, ◌&&◌, List, [], ◌∷◌, ◌++◌, map, length, get_or}
-use Rattle.scan.specs.Network.{Flaw, sound, Site, Fits, Each, build_of, latch_of, held_of}
+use Rattle.std.specs.Prelude.{◌≡◌, ℕ, suc, ◌<◌, ◌≤◌, Bool, true, List, [], ◌∷◌, map, length}
+use Rattle.scan.specs.Network.{sound, Site, Fits, Each, build_of, latch_of, held_of}
 use Rattle.scan.specs.Path.{on, path, SoundSibs}
 use Rattle.retarget.specs.Shapes.{Shape, shape_of, shapes_of, Formed, on_path, span}
 use Rattle.retarget.specs.Wants.{wanted, deepest, opened, needed_down_to, needed_or_wanted}
-use Rattle.retarget.specs.Strings.{Order, none, asks, word, string, sieve, path_cells, bit_for}
+use Rattle.retarget.specs.Strings.{Order, asks, word, string, path_cells, bit_for}
 use Rattle.retarget.specs.Runs.{stage, passes, shifted, path_lengths, run, kept, held_after, offers_read}
 
 -- The walk over shapes is the walk over a network's SIBs, and counts its path.

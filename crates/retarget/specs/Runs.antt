@@ -1,6 +1,6 @@
 -- A run: a reset and then passes, each a capture, its string bit by bit, and an update.
-use Rattle.std.specs.Prelude.{◌≡◌, ℕ, zero, suc, ◌+◌, ◌<◌, ◌≤◌, Bool, true, false, cond, not, ◌&&◌, List, [], ◌∷◌, ◌++◌, map, length, get_or}
-use Rattle.scan.specs.Network.{Network, rest, Site, held_of}
+use Rattle.std.specs.Prelude.{ℕ, zero, suc, ◌+◌, Bool, cond, not, ◌&&◌, List, [], ◌∷◌, ◌++◌, length}
+use Rattle.scan.specs.Network.{Network, rest, Site}
 use Rattle.scan.specs.Path.{path}
 use Rattle.scan.specs.Moves.{reset, capture, feed, outs, update}
 use Rattle.retarget.specs.Shapes.{Shape}

@@ -1,5 +1,5 @@
 -- A SIB as a table has it, and the walk over a list of them in scan order, SIB N first.
-use Rattle.std.specs.Prelude.{◌≡◌, ℕ, suc, ◌+◌, ◌≤◌, Bool, true, false, cond, not, ◌&&◌, List, [], ◌∷◌, map, length, nat_le, slice_index_or}
+use Rattle.std.specs.Prelude.{ℕ, suc, ◌+◌, ◌≤◌, Bool, false, cond, not, ◌&&◌, List, [], ◌∷◌, map, length, nat_le, slice_index_or}
 use Rattle.scan.specs.Network.{Site}
 
 -- `cells` is how many cells an instrument has in its row; a doorway has none.

@@ -1,8 +1,8 @@
 -- Orders for instruments, the string of each pass, and what is kept of what comes out.
-use Rattle.std.specs.Prelude.{◌≡◌, ℕ, zero, suc, ◌+◌, ◌<◌, ◌≤◌, Bool, true, false, cond, not, ◌&&◌, ◌||◌, List, [], ◌∷◌, ◌++◌, map, length, replicate, slice_index_or}
+use Rattle.std.specs.Prelude.{ℕ, zero, suc, Bool, true, false, cond, not, ◌&&◌, List, [], ◌∷◌, map, replicate, slice_index_or}
 use Rattle.scan.specs.Path.{pick}
 use Rattle.retarget.specs.Shapes.{Shape, nowhere, on_path}
-use Rattle.retarget.specs.Wants.{wanted, needs, aims, opened}
+use Rattle.retarget.specs.Wants.{wanted, aims, opened}
 
 -- What a run is to do with a SIB's instrument.
 pub data Order : Type 0 where

@@ -1,5 +1,5 @@
 -- What a run wants, and which latches it opens for that. Lists go in scan order; ws says which SIBs are wanted.
-use Rattle.std.specs.Prelude.{◌≡◌, ℕ, suc, ◌+◌, ◌<◌, ◌≤◌, max, Bool, true, false, cond, not, ◌&&◌, ◌||◌, List, [], ◌∷◌, map, length, Decides, nat_le, nat_lt, slice_index_or}
+use Rattle.std.specs.Prelude.{◌≡◌, ℕ, suc, ◌<◌, max, Bool, true, false, cond, not, ◌&&◌, ◌||◌, List, [], ◌∷◌, length, Decides, nat_le, nat_lt, slice_index_or}
 use Rattle.scan.specs.Path.{Behind}
 use Rattle.retarget.specs.Shapes.{Shape, Formed, nowhere, depth_at}
 

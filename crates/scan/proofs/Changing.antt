@@ -3,7 +3,7 @@ use Rattle.std.proofs.Common.{◌≡◌, ℕ, zero, suc, Bool, true, false, List
 use Rattle.scan.specs.Network.{Site, build_of, latch_of, held_of}
 use Rattle.scan.specs.Path.{on, path, flaws_of}
 use Rattle.scan.specs.Moves.{put, each, spread, captured, updated, moved, reset}
-use Rattle.scan.specs.Laws.{Changes, CallsChangeOnlyTheirPart}
+use Rattle.scan.specs.Laws.{CallsChangeOnlyTheirPart}
 use Rattle.scan.proofs.Fill.{map_spread, map_each, map_reset}
 
 each_off : (f : Site → Site) (ms : List Bool) (ss : List Site) (i : ℕ) (d : Site) → get_or ms i false ≡ false → get_or (each f ms ss) i d ≡ get_or ss i d

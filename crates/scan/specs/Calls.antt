@@ -1,11 +1,11 @@
 -- What each call of a transport does to the network that it means, by its answer.
-use Rattle.std.specs.Prelude.{◌≡◌, ℕ, ◌+◌, ◌%◌, ◌^◌, Bool, ◌≢◌, ◌⊎◌, List, map, Ok, Err, Result}
+use Rattle.std.specs.Prelude.{◌≡◌, ◌+◌, ◌%◌, ◌^◌, Bool, ◌≢◌, ◌⊎◌, map, Ok, Err, Result}
 use Rattle.refusal.specs.declared.ScanFault.{ScanFault}
 use Rattle.refusal.specs.declared.ScanFault.TheVariants.{Lost, WrongPhase}
 use Rattle.refusal.specs.declared.Loss.{Loss}
-use Rattle.scan.specs.Network.{Network, Phase, rest, scan, broken, Site, build_of, latch_of, held_of}
+use Rattle.scan.specs.Network.{Network, Phase, rest, scan, broken, build_of, latch_of, held_of}
 use Rattle.scan.specs.Path.{path}
-use Rattle.scan.specs.Moves.{first, closed, reset, capture, shift, update}
+use Rattle.scan.specs.Moves.{first, reset, capture, shift, update}
 
 abbrev pub after_reset : Network → Network
 after_reset n = record { sites = reset n.sites; phase = rest; lost = n.lost }

@@ -1,6 +1,6 @@
 -- What is proved of every network.
-use Rattle.std.specs.Prelude.{◌≡◌, ℕ, Bool, true, false, List, [], ◌∷◌, ◌++◌, map, length, slice_index_or}
-use Rattle.scan.specs.Network.{Flaw, Site, Fits, Each, build_of, latch_of, held_of, shown}
+use Rattle.std.specs.Prelude.{◌≡◌, ℕ, Bool, false, List, ◌++◌, map, length, slice_index_or}
+use Rattle.scan.specs.Network.{Site, Fits, Each, build_of, latch_of, held_of, shown}
 use Rattle.scan.specs.Path.{on, path, path_flaws, path_offered, SoundPath}
 use Rattle.scan.specs.Moves.{fill, reset, capture, shift, update, feed, outs, loaded}
 

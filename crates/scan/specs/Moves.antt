@@ -1,5 +1,5 @@
 -- What reset, capture, shift and update do to the sites.
-use Rattle.std.specs.Prelude.{ℕ, Bool, true, false, cond, List, [], ◌∷◌, ◌++◌, map, length, take, drop}
+use Rattle.std.specs.Prelude.{Bool, true, false, cond, List, [], ◌∷◌, ◌++◌, map, length, take, drop}
 use Rattle.scan.specs.Network.{Site, live, shows, shown}
 use Rattle.scan.specs.Path.{on, path, flaws_of}
 

@@ -1,5 +1,5 @@
 -- A scan network: SIBs in scan order, SIB N first, each with the instrument or the section that stands behind it.
-use Rattle.std.specs.Prelude.{◌≡◌, ℕ, Bool, true, false, not, ◌&&◌, List, [], ◌∷◌, length}
+use Rattle.std.specs.Prelude.{◌≡◌, ℕ, Bool, not, ◌&&◌, List, [], ◌∷◌, length}
 
 -- A cell is sound, or stuck: then it always shows the same bit.
 pub data Flaw : Type 0 where

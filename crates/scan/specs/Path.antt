@@ -1,5 +1,5 @@
 -- The active path.
-use Rattle.std.specs.Prelude.{◌≡◌, ℕ, suc, ◌+◌, ◌<◌, ◌≤◌, Bool, true, false, cond, not, ◌&&◌, List, [], ◌∷◌, ◌++◌, map, length, get_or, Decides, ◌≢◌, nat_le, slice_index_or}
+use Rattle.std.specs.Prelude.{◌≡◌, ℕ, suc, ◌<◌, ◌≤◌, Bool, true, false, cond, ◌&&◌, List, [], ◌∷◌, ◌++◌, map, length, get_or, Decides, ◌≢◌, nat_le, slice_index_or}
 use Rattle.scan.specs.Network.{Flaw, sound, Build, Site, build_of, latch_of, shown, live, Each}
 
 -- In the subject's words. Places count from 0 in scan order, so place i is number N - i. A SIB stands behind the nearest

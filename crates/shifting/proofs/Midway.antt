@@ -1,11 +1,10 @@
 -- A network between two shifts, by what is left to be shifted.
-use Rattle.std.proofs.Common.{◌≡◌, ℕ, ◌+◌, ◌%◌, ◌^◌, Bool, List, [], ◌∷◌, map, Ok, Err, sym, refl, ap, ◌∙◌}
+use Rattle.std.proofs.Common.{◌≡◌, ℕ, ◌+◌, ◌%◌, ◌^◌, Bool, List, [], ◌∷◌, map, Ok, refl, ap, ◌∙◌}
 use Rattle.refusal.specs.declared.Loss.{Loss}
 use Rattle.refusal.specs.declared.ScanFault.{ScanFault}
 use Rattle.refusal.specs.declared.ScanFault.TheVariants.{Lost, WrongPhase}
-use Rattle.scan.specs.Network.{Network, Phase, scan, Site, build_of, latch_of, held_of}
-use Rattle.scan.specs.Path.{path}
-use Rattle.scan.specs.Moves.{first, shift, feed}
+use Rattle.scan.specs.Network.{Network, Phase, scan, build_of, latch_of, held_of}
+use Rattle.scan.specs.Moves.{feed}
 use Rattle.scan.specs.Calls.{LostCall, Fails, Shifts, after_shift}
 use Rattle.scan.proofs.Changing.{change_law}
 use Rattle.shifting.specs.Feeding.{fed, Loses}

@@ -1,8 +1,8 @@
 -- Rows of bits that are sent and kept.
-use Rattle.std.proofs.Common.{◌≡◌, ℕ, zero, suc, ◌+◌, ◌-◌, ◌<◌, ◌≤◌, Bool, true, false, ◌≢◌, List, [], ◌∷◌, length, get_or, set, replicate, Ok, Err, sym, refl, ap, ◌∙◌, subst, ap₂, arith, get_or-set_other}
+use Rattle.std.proofs.Common.{◌≡◌, ℕ, zero, suc, ◌+◌, ◌-◌, ◌<◌, ◌≤◌, Bool, true, false, ◌≢◌, List, [], ◌∷◌, length, get_or, set, replicate, Ok, sym, refl, ap, ◌∙◌, subst, ap₂, arith, get_or-set_other}
 use lib.ListN.{length-replicate}
 use Rattle.refusal.specs.declared.Loss.{Loss}
-use Rattle.scan.specs.Network.{Network, scan, Site}
+use Rattle.scan.specs.Network.{Network, scan}
 use Rattle.scan.specs.Path.{path}
 use Rattle.scan.specs.Moves.{first, shift, outs}
 use Rattle.scan.specs.Calls.{Shifts}

@@ -1,23 +1,20 @@
 -- A SIB's own bit and its row, shifted one after the other.
-use Rattle.std.proofs.Common.{◌≡◌, ℕ, zero, suc, ◌+◌, ◌<◌, ◌≤◌, Bool, true, false, List, [], ◌∷◌, length, replicate, Ok, Err, sym, refl, ap, ◌∙◌, subst, ap₂, add-zero, arith}
+use Rattle.std.proofs.Common.{◌≡◌, ℕ, ◌+◌, ◌<◌, Bool, true, false, List, ◌∷◌, length, replicate, Ok, sym, refl, ap, ◌∙◌, subst, add-zero}
 use lib.ListN.{length-replicate}
 use Rattle.refusal.specs.declared.Loss.{Loss}
 use Rattle.refusal.specs.declared.ScanFault.{ScanFault}
 use Rattle.bits.specs.declared.BitPlace.{BitPlace}
 use Rattle.bits.specs.Place.{flat}
-use Rattle.scan.specs.Network.{Network, scan, Site}
-use Rattle.scan.specs.Path.{path}
-use Rattle.scan.specs.Moves.{first, shift, outs}
-use Rattle.scan.specs.Calls.{Shifts, after_shift}
-use Rattle.retarget.specs.Strings.{sift}
+use Rattle.scan.specs.Network.{Network}
+use Rattle.scan.specs.Moves.{shift, outs}
+use Rattle.scan.specs.Calls.{Shifts}
 use Rattle.plan.specs.declared.visit.Row.{Row}
 use Rattle.plan.specs.declared.visit.Row.TheVariants.{Hidden, Read, Write}
-use Rattle.plan.specs.declared.visit.Visit.{Visit}
 use Rattle.shifting.specs.Orders.{bits_from}
-use Rattle.shifting.specs.Feeding.{fed, laid, StaysFrom, Loses, Feeds, Reads, row_bits_of, row_mask, kept_cells, visit_bits, visit_mask, VisitShifts}
+use Rattle.shifting.specs.Feeding.{fed, laid, StaysFrom, Loses, row_bits_of, row_mask, kept_cells, VisitShifts}
 use Rattle.retarget.proofs.Gathering.{length_outs, sift_replicate}
 use Rattle.shifting.proofs.Rows.{length_bits_from}
-use Rattle.shifting.proofs.Midway.{Same, same_shift, same_loses}
+use Rattle.shifting.proofs.Midway.{same_shift, same_loses}
 
 -- the loss of a call after the SIB's own bit
 pub sib_loses : (can : Loss → Type 0) (n x m : Network) (bit out : Bool) (e : ScanFault) → Shifts can n bit (Ok out) x → Loses can x e m → Loses can n e m

@@ -1,30 +1,25 @@
 -- A pass between two SIBs, by what is left of its string and of its sieve.
-use Rattle.std.proofs.Common.{◌≡◌, ℕ, zero, suc, ◌+◌, ◌-◌, ◌*◌, ◌^◌, ◌<◌, ◌≤◌, Bool, true, false, cond, not, ◌&&◌, ◌||◌, ltb, leb, List, [], ◌∷◌, ◌++◌, map, length, get_or, set, replicate, sym, refl, ap, ◌∙◌, subst, ap₂, add-zero, zero-add, arith, length-append}
+use Rattle.std.proofs.Common.{◌≡◌, ℕ, zero, suc, ◌+◌, ◌*◌, ◌≤◌, Bool, true, false, cond, ◌&&◌, leb, List, [], ◌∷◌, ◌++◌, map, length, set, replicate, sym, refl, ap, ◌∙◌, ap₂, add-zero, zero-add, arith}
 use lib.ListN.{length-replicate}
-use Rattle.std.proofs.lemmas.List.{append_assoc}
 use Rattle.std.proofs.lemmas.Bool.{and_parts}
 use Rattle.table.specs.declared.Record.{Record}
-use Rattle.table.specs.Rules.{blank, is_doorway}
 use Rattle.table.specs.Marks.{numbered}
-use Rattle.scan.specs.Network.{Network, scan, Site}
+use Rattle.scan.specs.Network.{Network}
 use Rattle.scan.specs.Path.{pick}
-use Rattle.scan.specs.Moves.{feed, outs}
+use Rattle.scan.specs.Moves.{outs}
 use Rattle.retarget.specs.Shapes.{Shape, reach_after, on_path}
 use Rattle.retarget.specs.Wants.{wanted, aims, opened}
-use Rattle.retarget.specs.Strings.{Order, none, read, write, asks, reads, word, part, parts, mask, masks, sift, string, sieve}
-use Rattle.retarget.proofs.Gathering.{feed_append, outs_append, length_outs, sift_append}
+use Rattle.retarget.specs.Strings.{Order, none, read, write, asks, reads, word, part, parts, mask, masks, sift}
 use Rattle.plan.specs.declared.visit.Row.{Row}
 use Rattle.plan.specs.declared.visit.Row.TheVariants.{Hidden, Read, Write}
-use Rattle.plan.specs.declared.visit.Visit.{Visit}
 use Rattle.plan.specs.declared.wanted.Wanted.{Wanted}
 use Rattle.plan.specs.declared.wanted.Plan.{Plan}
-use Rattle.plan.specs.Order.{down, shape_at, shapes, wanted_at, wanteds}
-use Rattle.plan.specs.Plans.{table_of, plan_shapes, plan_wants, wanted_in, aim_at, open_at, RowIs, Visited, sent_to}
-use Rattle.plan.proofs.Numbers.{wanted_instrument}
+use Rattle.plan.specs.Order.{shape_at, wanted_at, wanteds}
+use Rattle.plan.specs.Plans.{table_of, plan_shapes, plan_wants, wanted_in, aim_at, open_at, RowIs, sent_to}
 use Rattle.shifting.specs.Orders.{bits_from, order_at, orders_from}
-use Rattle.shifting.specs.Feeding.{fed, laid, StaysFrom, visit_bits, visit_mask, row_bits_of, row_mask, kept_cells, cells_of}
+use Rattle.shifting.specs.Feeding.{laid, StaysFrom, row_bits_of, row_mask, kept_cells, cells_of}
 use Rattle.shifting.specs.Passes.{plan_orders, string_of, sieve_of, trues}
-use Rattle.shifting.proofs.Midway.{Same, same_more, same_feed, Midway}
+use Rattle.shifting.proofs.Midway.{Midway}
 use Rattle.shifting.proofs.Rows.{length_bits_from, stays_set}
 
 -- What is left of a string and of a sieve at number n, where the depth r is in reach and the bits of n begin at `at`.

@@ -1,11 +1,11 @@
 -- Bits shifted one after the other, and what is kept of those that come out.
-use Rattle.std.specs.Prelude.{◌≡◌, ℕ, suc, ◌+◌, ◌*◌, ◌^◌, ◌<◌, ◌≤◌, Bool, true, false, List, [], ◌∷◌, length, replicate, Ok, Err, Result, slice_index_or, slice_set}
+use Rattle.std.specs.Prelude.{◌≡◌, ℕ, suc, ◌+◌, ◌^◌, ◌<◌, ◌≤◌, Bool, true, false, List, [], ◌∷◌, length, replicate, Ok, Err, Result, slice_index_or, slice_set}
 use Rattle.refusal.specs.declared.Loss.{Loss}
 use Rattle.refusal.specs.declared.ScanFault.{ScanFault}
 use Rattle.refusal.specs.declared.ScanFault.TheVariants.{Lost, WrongPhase}
 use Rattle.bits.specs.declared.BitPlace.{BitPlace}
 use Rattle.bits.specs.Place.{flat}
-use Rattle.scan.specs.Network.{Network, scan, Site}
+use Rattle.scan.specs.Network.{Network, scan}
 use Rattle.scan.specs.Moves.{feed, outs}
 use Rattle.scan.specs.Calls.{LostCall}
 use Rattle.retarget.specs.Strings.{sift}

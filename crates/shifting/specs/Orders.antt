@@ -1,5 +1,5 @@
 -- What the marks of a table and the bytes of a data command order of each instrument.
-use Rattle.std.specs.Prelude.{ℕ, zero, suc, ◌+◌, Bool, true, false, cond, List, [], ◌∷◌, length, slice_index_or}
+use Rattle.std.specs.Prelude.{ℕ, zero, suc, ◌+◌, Bool, false, cond, List, [], ◌∷◌, length, slice_index_or}
 use Rattle.table.specs.declared.Record.{Record}
 use Rattle.table.specs.Marks.{numbered}
 use Rattle.retarget.specs.Strings.{Order, none, read, write}

@@ -1,5 +1,5 @@
 -- What a pass does to the network that a transport means.
-use Rattle.std.specs.Prelude.{◌≡◌, ℕ, suc, ◌+◌, ◌%◌, ◌^◌, ◌≤◌, Bool, true, false, List, [], ◌∷◌, length, get_or, None, Ok, Err, Result}
+use Rattle.std.specs.Prelude.{◌≡◌, ℕ, suc, ◌%◌, ◌^◌, Bool, true, false, List, [], ◌∷◌, length, None, Ok, Err, Result}
 use Rattle.refusal.specs.declared.Loss.{Loss}
 use Rattle.refusal.specs.declared.ScanFault.{ScanFault}
 use Rattle.table.specs.declared.Record.{Record}

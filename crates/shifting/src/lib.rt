@@ -2,5 +2,4 @@
 // A run wants some instruments: it opens the way to them one level at a time, and then shifts through them.
 #![tactic(auto)]
 
-mod pass;
 mod shifts;

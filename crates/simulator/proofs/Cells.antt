@@ -5,7 +5,7 @@ use Rattle.scan.specs.Network.{Build, build_of}
 use Rattle.scan.specs.Moves.{spread, reset}
 use Rattle.scan.proofs.Fill.{map_spread, map_reset}
 use Rattle.simulator.specs.declared.site.Site.{Site}
-use Rattle.simulator.specs.Meaning.{meaning, meanings, all_cells, dealt}
+use Rattle.simulator.specs.Meaning.{meanings, all_cells, dealt}
 use Rattle.simulator.specs.Parts.{length_row_flaws}
 
 abbrev pub built_cells : List Build → ℕ

@@ -1,6 +1,6 @@
 -- A loop that changes every site, as it means.
 use Rattle.std.proofs.Common.{◌≡◌, ℕ, ◌+◌, ◌<◌, ◌≤◌, List, ◌++◌, map, length, get_or, take, drop, set, sym, ap, ◌∙◌, arith}
-use Rattle.std.proofs.lemmas.List.{map-set, get_or-map, length-map, append-nil, take_all, drop_all}
+use Rattle.std.proofs.lemmas.List.{map-set, get_or-map, append-nil, take_all, drop_all}
 use Rattle.std.proofs.lemmas.List.Edits.{map_over_more}
 use Rattle.scan.specs.Network as model
 use Rattle.simulator.specs.declared.site.Site.{Site}

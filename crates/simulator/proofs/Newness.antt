@@ -1,13 +1,13 @@
 -- Sites that are made from the highest number down.
-use Rattle.std.proofs.Common.{◌≡◌, ℕ, suc, ◌+◌, ◌-◌, ◌<◌, ◌≤◌, Bool, List, [], ◌∷◌, ◌++◌, map, length, get_or, take, drop, sym, refl, ap, ◌∙◌, ap₂, arith}
-use Rattle.std.proofs.lemmas.List.{drop_more, take_more, take_all, drop_all, append-nil, map_push, map-append, length-append, drop-drop, take-append-drop, length-drop, length-take-le}
+use Rattle.std.proofs.Common.{◌≡◌, ℕ, ◌+◌, ◌-◌, ◌<◌, ◌≤◌, Bool, List, [], ◌∷◌, ◌++◌, map, length, get_or, take, drop, sym, refl, ap, ◌∙◌, ap₂, arith}
+use Rattle.std.proofs.lemmas.List.{drop_more, take_more, take_all, drop_all, map_push, map-append, drop-drop, take-append-drop, length-drop, length-take-le}
 use Rattle.table.specs.declared.Record.{Record}
 use Rattle.table.specs.Rules.{blank}
 use Rattle.scan.specs.Network as model
 use Rattle.scan.specs.Network.{Build, build_of}
 use Rattle.simulator.specs.declared.site.Setting.{Setting}
 use Rattle.simulator.specs.declared.site.Site.{Site}
-use Rattle.simulator.specs.Meaning.{meaning, meanings, all_cells, row_flaws}
+use Rattle.simulator.specs.Meaning.{meaning, meanings, all_cells}
 use Rattle.simulator.specs.Fresh.{fresh_site, fresh_sites, bits_in, plain}
 use Rattle.simulator.specs.Parts.{length_row_flaws}
 use Rattle.simulator.proofs.Cells.{built_cells, all_built}

@@ -1,6 +1,6 @@
 -- The path from a site on, by what is left of the sites.
-use Rattle.std.proofs.Common.{◌≡◌, ℕ, suc, ◌+◌, ◌<◌, ◌≤◌, Bool, true, false, cond, leb, List, [], ◌∷◌, ◌++◌, map, length, get_or, take, drop, set, sym, refl, ap, ◌∙◌, ap₂, arith}
-use Rattle.std.proofs.lemmas.List.{drop_more, append_assoc, take_more_set, drop-set-lt, map-append, length-append, drop-drop}
+use Rattle.std.proofs.Common.{◌≡◌, ℕ, ◌+◌, ◌<◌, Bool, true, false, leb, List, ◌∷◌, ◌++◌, map, length, get_or, drop, sym, ap, ◌∙◌}
+use Rattle.std.proofs.lemmas.List.{drop_more}
 use Rattle.scan.specs.Network.{Flaw, Site, build_of, latch_of}
 use Rattle.scan.specs.Path.{marks, reach_after, pick, offered, flaws_of}
 use Rattle.scan.specs.Moves.{spread}

@@ -1,9 +1,9 @@
 -- A network just made from a table: at rest, with the cable in, every SIB closed and every cell 0.
-use Rattle.std.specs.Prelude.{◌≡◌, ℕ, ◌+◌, ◌-◌, ◌<◌, ◌≤◌, Bool, true, false, cond, ◌&&◌, ◌≢◌, List, [], ◌∷◌, ◌++◌, length, take, drop, replicate, Some, None, Ok, Err, Option, Result, nat_lt, slice_index_or}
+use Rattle.std.specs.Prelude.{◌≡◌, ℕ, ◌+◌, ◌-◌, ◌<◌, ◌≤◌, Bool, true, false, ◌≢◌, List, [], ◌∷◌, ◌++◌, length, take, drop, replicate, Some, None, Ok, Err, Option, Result, nat_lt, slice_index_or}
 use Rattle.table.specs.declared.Record.{Record}
 use Rattle.table.specs.Rules.{blank, is_doorway, table_fault}
 use Rattle.scan.specs.Network as model
-use Rattle.simulator.specs.declared.site.Offer.TheVariants.{Keeps, Inverts}
+use Rattle.simulator.specs.declared.site.Offer.TheVariants.{Keeps}
 use Rattle.simulator.specs.declared.site.Stuck.{Stuck}
 use Rattle.simulator.specs.declared.site.Setting.{Setting}
 use Rattle.simulator.specs.declared.site.NetworkFault.{NetworkFault}

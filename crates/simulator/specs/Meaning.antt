@@ -1,5 +1,5 @@
 -- The network that a simulator stands for.
-use Rattle.std.specs.Prelude.{◌≡◌, ℕ, suc, ◌+◌, Bool, true, false, cond, not, List, [], ◌∷◌, map, length, take, replicate, Some, None, vec_items, Option, slice_set}
+use Rattle.std.specs.Prelude.{ℕ, suc, ◌+◌, Bool, cond, not, List, [], ◌∷◌, map, length, replicate, Some, None, vec_items, Option, slice_set}
 use Rattle.table.specs.Rules.{is_doorway}
 use Rattle.scan.specs.Network as model
 use Rattle.scan.specs.Network.{Flaw, sound, stuck}

@@ -1,14 +1,13 @@
 -- What a simulator stands for, and what its own steps do to it.
-use Rattle.std.specs.Prelude.{◌≡◌, ℕ, ◌+◌, ◌%◌, ◌^◌, Bool, true, false, List, Ok, Err, vec_items, Result}
+use Rattle.std.specs.Prelude.{◌≡◌, ◌+◌, ◌%◌, ◌^◌, Bool, true, false, Ok, Err, vec_items, Result}
 use Rattle.refusal.specs.declared.Loss.{Loss}
-use Rattle.refusal.specs.declared.Loss.TheVariants.{Network, Cutter}
+use Rattle.refusal.specs.declared.Loss.TheVariants.{Network}
 use Rattle.refusal.specs.declared.ScanFault.{ScanFault}
 use Rattle.refusal.specs.declared.ScanFault.TheVariants.{Lost, WrongPhase}
 use Rattle.scan.specs.Network as model
 use Rattle.scan.specs.Network.{shown}
 use Rattle.scan.specs.Path.{on, path_offered, path_flaws}
 use Rattle.scan.specs.Moves.{spread, first, moved}
-use Rattle.simulator.specs.declared.site.Phase.{Phase}
 use Rattle.simulator.specs.declared.site.Phase.TheVariants.{Rest, Scan, Broken}
 use Rattle.simulator.specs.declared.network.Simulator.{Simulator}
 use Rattle.simulator.specs.Meaning.{meanings, dealt, network_of}

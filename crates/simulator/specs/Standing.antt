@@ -1,11 +1,11 @@
 -- What a simulator stands for, before and after each of its calls.
-use Rattle.std.specs.Prelude.{◌≡◌, ℕ, Bool, true, false, not, List, [], ◌∷◌, ◌++◌, map, length, drop, vec_items, vec_len, refl}
-use Rattle.std.proofs.Common.{sym, ap, ap₂, ◌∙◌, arith}
+use Rattle.std.specs.Prelude.{◌≡◌, ℕ, Bool, true, false, not, List, [], ◌∷◌, map, length, drop, vec_items, vec_len, refl}
+use Rattle.std.proofs.Common.{sym, ap, ◌∙◌, arith}
 use Rattle.std.proofs.lemmas.List.{append-nil, length-map}
 use Rattle.scan.specs.Network as model
 use Rattle.scan.specs.Network.{Each, Fits, shown, build_of, latch_of, held_of}
 use Rattle.scan.specs.Path.{on, path, path_offered, path_flaws, flaws_of}
-use Rattle.scan.specs.Moves.{put, fill, spread, each, capture, shift, update, updated, first, moved}
+use Rattle.scan.specs.Moves.{put, fill, spread, each, capture, shift, update, updated, first}
 use Rattle.scan.specs.Calls.{LostCall, after_capture, after_shift, after_update}
 use Rattle.scan.proofs.Fill.{map_spread, on_fill, path_fill, capture_is_fill}
 use Rattle.scan.proofs.Queue.{shift_fill}
@@ -17,7 +17,7 @@ use Rattle.simulator.specs.declared.site.Phase.{Phase}
 use Rattle.simulator.specs.declared.site.Phase.TheVariants.{Rest, Scan, Broken}
 use Rattle.simulator.specs.declared.site.Site.{Site}
 use Rattle.simulator.specs.declared.network.Simulator.{Simulator}
-use Rattle.simulator.specs.Meaning.{meaning, meanings, offer_of, dealt, sites_now, network_of, phase_of}
+use Rattle.simulator.specs.Meaning.{meaning, meanings, offer_of, sites_now, phase_of}
 use Rattle.simulator.specs.Simulated.{network, LostAll, Emptied, Filled, Turned}
 use Rattle.simulator.specs.Round.{round}
 use Rattle.simulator.specs.Parts.{length_row_flaws}

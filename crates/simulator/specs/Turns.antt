@@ -1,6 +1,6 @@
 -- A ring that turns by one bit, and one that is changed at a place.
-use Rattle.std.specs.Prelude.{◌≡◌, ℕ, ◌+◌, ◌-◌, ◌<◌, ◌≤◌, Bool, List, [], ◌∷◌, ◌++◌, length, take, drop, slice_index_or, slice_set}
-use Rattle.std.proofs.Common.{sym, ap, ◌∙◌, append_assoc, arith, length-append, take-append-drop, length-drop}
+use Rattle.std.specs.Prelude.{◌≡◌, ℕ, ◌+◌, ◌-◌, ◌<◌, ◌≤◌, Bool, List, [], ◌∷◌, length, take, drop, slice_index_or, slice_set}
+use Rattle.std.proofs.Common.{sym, ap, append_assoc, arith, length-append, take-append-drop, length-drop}
 use Rattle.std.proofs.lemmas.List.{append-nil, take_all, drop_all, drop_more, take_more_set, drop-set-lt, take-set-le, drop-set-add, set-append_left, set-append_right, set_past}
 use Rattle.std.proofs.Math.Seq.{take-set-lt}
 use Rattle.scan.specs.Moves.{first, moved}

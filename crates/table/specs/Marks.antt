@@ -1,12 +1,11 @@
 -- The three marks of a record, and what changes them.
-use Rattle.std.specs.Prelude.{◌≡◌, ℕ, ◌+◌, ◌-◌, ◌<◌, ◌≤◌, Bool, true, false, cond, not, ◌&&◌, List, [], ◌∷◌, map, length, Some, None, Option, nat_le, slice_index_or, slice_set}
+use Rattle.std.specs.Prelude.{◌≡◌, ℕ, ◌-◌, Bool, true, false, not, ◌&&◌, List, [], ◌∷◌, length, Some, None, Option, nat_le, slice_index_or, slice_set}
 use Rattle.std.specs.Borrow.{Bor}
-use Rattle.std.specs.Option.{option_map}
 use Rattle.refusal.specs.declared.Refusal.{Refusal}
-use Rattle.refusal.specs.declared.Refusal.TheVariants.{Table, NoInstrument, AlreadyChosen}
-use Rattle.refusal.specs.Checks.{unless, first_failing}
+use Rattle.refusal.specs.declared.Refusal.TheVariants.{NoInstrument, AlreadyChosen}
+use Rattle.refusal.specs.Checks.{unless}
 use Rattle.table.specs.declared.Record.{Record}
-use Rattle.table.specs.Rules.{blank, is_doorway, table_fault}
+use Rattle.table.specs.Rules.{blank, is_doorway}
 
 -- the record of number n
 abbrev pub numbered : List Record → ℕ → Record

@@ -1,4 +1,4 @@
-use Rattle.std.proofs.Common.{ap, ◌∙◌, arith, rules}
+use Rattle.std.proofs.Common.{ap, ◌∙◌, rules}
 use Rattle.bits.specs.Order.{byte_bits}
 use Rattle.bits.proofs.Every.{byte_with_bit}
 use Rattle.bits.proofs.Places.{row_set}

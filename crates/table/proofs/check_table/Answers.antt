@@ -1,6 +1,6 @@
-use Rattle.std.proofs.Common.{◌≡◌, true, arith, rules}
+use Rattle.std.proofs.Common.{◌≡◌, true, arith}
 use Rattle.std.proofs.lemmas.Bool.Decides.{nat_tests}
-use Rattle.table.specs.Rules.{size_fits, highest_broken}
+use Rattle.table.specs.Rules.{size_fits}
 use Rattle.table.proofs.Highest.{none_broken, one_broken}
 use Rattle.table.proofs.check_table.Goals as goal
 

@@ -1,7 +1,5 @@
-use Rattle.std.proofs.Common.{◌≡◌, ℕ, ◌+◌, ◌-◌, Bool, true, false, List, [], replicate, sym, refl, ap, ◌∙◌, subst, arith}
+use Rattle.std.proofs.Common.{arith}
 use Rattle.std.proofs.lemmas.Result.{err_from_is_err_and}
-use Rattle.bits.specs.Order.{row_bits}
-use Rattle.bits.specs.Place.{flat}
 use Rattle.bits.proofs.Places.{store_anywhere}
 use Rattle.shifting.proofs.Midway.{midway_fails}
 use Rattle.shifting.proofs.Rows.{read_none, read_more, read_all, ones_end}

@@ -1,9 +1,6 @@
-use Rattle.std.proofs.Common.{◌≡◌, ℕ, ◌+◌, ◌-◌, Bool, false, List, Option, unwrap_or, sym, refl, ap, ◌∙◌, subst, arith}
+use Rattle.std.proofs.Common.{Bool, false, Option, unwrap_or, ap, ◌∙◌, arith}
 use Rattle.std.proofs.lemmas.Result.{err_from_is_err_and}
-use Rattle.bits.specs.Order.{row_bits}
-use Rattle.bits.specs.Place.{flat}
 use Rattle.bits.proofs.Places.{take_anywhere}
-use Rattle.shifting.specs.Orders.{bits_from}
 use Rattle.shifting.proofs.Midway.{midway_fails}
 use Rattle.shifting.proofs.Rows.{write_none, write_more, write_all}
 use Rattle.shifting.proofs.shifts.shift_write.Goals as goal

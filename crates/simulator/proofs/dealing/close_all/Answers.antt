@@ -1,4 +1,4 @@
-use Rattle.std.proofs.Common.{List, sym, refl, ap, ◌∙◌, arith, rules}
+use Rattle.std.proofs.Common.{List, refl, ap, ◌∙◌, arith, rules}
 use Rattle.std.proofs.lemmas.List.{take_at, length-map}
 use Rattle.scan.specs.Moves.{closed, reset}
 use Rattle.simulator.specs.declared.site.Site.{Site}

@@ -1,4 +1,4 @@
-use Rattle.std.proofs.Common.{◌≡◌, ◌+◌, get_or, drop, sym, arith, rules, below_more}
+use Rattle.std.proofs.Common.{◌≡◌, ◌+◌, get_or, drop, sym, arith, below_more}
 use Rattle.std.proofs.lemmas.List.{at_drop_more, at_drop_all}
 use Rattle.table.specs.Rules.{blank}
 use Rattle.simulator.specs.Fresh.{bits_in}

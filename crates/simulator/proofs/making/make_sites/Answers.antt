@@ -1,5 +1,5 @@
-use Rattle.std.proofs.Common.{refl, arith, rules}
-use Rattle.simulator.proofs.Newness.{made_none, made_ends, held_part, made_next, made_all}
+use Rattle.std.proofs.Common.{refl, rules}
+use Rattle.simulator.proofs.Newness.{made_none, made_ends, held_part, made_next}
 use Rattle.simulator.proofs.making.make_sites.Goals as goal
 
 pub loop-i-init : goal.loop-i-init

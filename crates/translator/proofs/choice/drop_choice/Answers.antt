@@ -1,5 +1,5 @@
 use Rattle.std.proofs.lemmas.Result.{err_from_is_err_and}
-use Rattle.refusal.proofs.Answering.{none_refused, refused_by}
+use Rattle.refusal.proofs.Answering.{refused_by}
 use Rattle.table.specs.Rules.{table_fault}
 use Rattle.translator.proofs.choice.drop_choice.Goals as goal
 

@@ -1,5 +1,5 @@
-use Rattle.std.proofs.Common.{◌≡◌, ℕ, ◌+◌, ◌-◌, ◌%◌, ◌^◌, false, sym, refl, ap, ◌∙◌, add-zero, mod-lt, mod-eq_of_lt, arith, lit<}
-use Rattle.plan.specs.Length.{section, seen, sib}
+use Rattle.std.proofs.Common.{ℕ, ◌+◌, ◌-◌, ◌%◌, ◌^◌, false, sym, ap, ◌∙◌, add-zero, mod-lt, mod-eq_of_lt, arith, lit<}
+use Rattle.plan.specs.Length.{section, seen}
 use Rattle.plan.proofs.Sections.{section_turn, seen_none}
 use Rattle.plan.proofs.wanted.Plan.+section_len_sib_len.Goals as goal
 

@@ -1,8 +1,8 @@
-use Rattle.std.proofs.Common.{◌≡◌, ℕ, ◌+◌, ◌-◌, refl, ap, ◌∙◌, arith}
+use Rattle.std.proofs.Common.{◌-◌, ap, arith}
 use Rattle.std.proofs.lemmas.Bool.Decides.{nat_tests}
 use Rattle.plan.specs.Order.{shape_at}
 use Rattle.plan.specs.Plans.{table_of}
-use Rattle.plan.specs.Length.{run, seen}
+use Rattle.plan.specs.Length.{run}
 use Rattle.plan.proofs.Sections.{seen_step, seen_none}
 use Rattle.plan.proofs.wanted.Plan.behind.Goals as goal
 

@@ -1,5 +1,4 @@
-use Rattle.std.proofs.Common.{◌≡◌, ℕ, length, sym, refl, ap, ◌∙◌, arith}
-use Rattle.plan.specs.Plans.{depth_of}
+use Rattle.std.proofs.Common.{◌≡◌, ℕ, length, refl, ap, ◌∙◌, arith}
 use Rattle.retarget.specs.Wants.{deepest}
 use Rattle.plan.specs.Order.{shapes, wanteds}
 use Rattle.plan.proofs.Numbers.{deepest_more}

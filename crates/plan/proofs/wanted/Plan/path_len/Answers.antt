@@ -1,8 +1,8 @@
-use Rattle.std.proofs.Common.{◌≡◌, ℕ, ◌%◌, ◌^◌, false, List, map, length, sym, refl, ap, ◌∙◌, subst, ap₂, arith}
-use Rattle.retarget.specs.Shapes.{Shape, Formed, span}
+use Rattle.std.proofs.Common.{◌≡◌, ℕ, ◌%◌, ◌^◌, false, map, length, sym, ap, ◌∙◌, subst, ap₂, arith}
+use Rattle.retarget.specs.Shapes.{Formed, span}
 use Rattle.plan.specs.Order.{down}
 use Rattle.plan.specs.Plans.{table_of, plan_shapes}
-use Rattle.plan.specs.Length.{Seen, section, seen_at, seen}
+use Rattle.plan.specs.Length.{section, seen_at}
 use Rattle.plan.proofs.Numbers.{opened_down, map_down}
 use Rattle.plan.proofs.Sections.{shape_in, latch_in, section_span, seen_all}
 use Rattle.plan.proofs.wanted.Plan.path_len.Goals as goal

@@ -1,4 +1,4 @@
-use Rattle.std.proofs.Common.{vec_items, refl, arith, rules}
+use Rattle.std.proofs.Common.{vec_items, refl, arith}
 use Rattle.std.proofs.lemmas.Result.{err_from_is_err_and}
 use Rattle.refusal.proofs.Answering.{none_refused, refused_by}
 use Rattle.table.specs.Rules.{table_fault}

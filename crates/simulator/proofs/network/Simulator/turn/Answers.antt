@@ -1,5 +1,4 @@
-use Rattle.std.proofs.Common.{◌≡◌, Bool, List, length, vec_items, vec_len, sym, refl, ap, ◌∙◌, rules}
-use Rattle.scan.specs.Network.{shown}
+use Rattle.std.proofs.Common.{◌≡◌, Bool, List, length, vec_items, vec_len, sym, refl, ap, ◌∙◌}
 use Rattle.scan.specs.Path.{path_flaws}
 use Rattle.scan.specs.Moves.{first, moved}
 use Rattle.simulator.specs.Meaning.{meanings, stuck_places, forced}

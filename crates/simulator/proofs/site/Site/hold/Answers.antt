@@ -1,4 +1,4 @@
-use Rattle.std.proofs.Common.{◌≡◌, Bool, List, set, ap, ◌∙◌, rules}
+use Rattle.std.proofs.Common.{Bool, List, set, ap, ◌∙◌, rules}
 use Rattle.simulator.specs.Meaning.{meaning, with_held}
 use Rattle.simulator.proofs.Rows.{shown_none, shown_some, shown_outside}
 use Rattle.simulator.proofs.site.Site.hold.Goals as goal

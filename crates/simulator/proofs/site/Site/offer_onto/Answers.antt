@@ -1,4 +1,4 @@
-use Rattle.std.proofs.Common.{◌≡◌, false, sym, ◌∙◌, arith, rules}
+use Rattle.std.proofs.Common.{false, sym, ◌∙◌, arith}
 use Rattle.simulator.specs.Parts.{part_live, offering_more, offering_all}
 use Rattle.simulator.proofs.site.Site.offer_onto.Goals as goal
 
