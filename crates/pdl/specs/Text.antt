@@ -1,6 +1,6 @@
 -- The language: which bytes spell a statement, and what an answer says of the text that it was given.
 use Rattle.std.specs.Prelude.{◌≡◌, ℕ, ◌+◌, ◌-◌, ◌*◌, ◌<◌, Bool, true, false, ◌&&◌, ◌||◌, List, [], ◌∷◌, ◌++◌, length, Some, None, Ok, Err, codes, Option, Result, ◌==◌, ◌≢◌, nat_le}
-use Rattle.std.specs.List.{AllByRecursion as All}
+use Rattle.std.specs.List.{AllByRecursion}
 use Rattle.refusal.specs.declared.Refusal.{Refusal}
 use Rattle.refusal.specs.declared.Refusal.TheVariants.{NotStatement}
 use Rattle.pdl.specs.declared.Next.{Next}
@@ -20,7 +20,7 @@ abbrev pub bit : ℕ → Bool
 bit b = b == 48 || b == 49
 
 abbrev pub AllOf : (ℕ → Bool) → List ℕ → Type 0
-AllOf p bs = All (λ b. p b ≡ true) bs
+AllOf p bs = AllByRecursion (λ b. p b ≡ true) bs
 
 -- one or more
 abbrev pub SomeOf : (ℕ → Bool) → List ℕ → Type 0
