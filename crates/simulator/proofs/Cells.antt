@@ -6,7 +6,7 @@ use Rattle.scan.specs.Moves.{spread, reset}
 use Rattle.scan.proofs.Fill.{map_spread, map_reset}
 use Rattle.simulator.specs.declared.site.Site.{Site}
 use Rattle.simulator.specs.Meaning.{meanings, all_cells, dealt}
-use Rattle.simulator.specs.NetworkFits.{length_row_flaws}
+use Rattle.simulator.specs.Parts.{length_row_flaws}
 
 abbrev pub built_cells : List Build → ℕ
 built_cells [] = 0

@@ -9,7 +9,7 @@ use Rattle.simulator.specs.declared.site.Stuck.{Stuck}
 use Rattle.simulator.specs.declared.site.StuckPlace.{StuckPlace}
 use Rattle.simulator.specs.Meaning.{meaning, meanings, row_flaws, all_cells, stuck_places, stuck_at}
 use Rattle.simulator.proofs.Walks.{offered_from, flaws_from, offered_on, offered_off, flaws_on, flaws_off}
-use Rattle.simulator.specs.NetworkFits.{length_row_flaws}
+use Rattle.simulator.specs.Parts.{length_row_flaws}
 use Rattle.simulator.proofs.Places.{stuck_places_append}
 
 -- After i sites: n and m are how many bits and stuck cells there are, within the room that was there at first.

@@ -1,11 +1,8 @@
-pub mod Turns
 pub mod Rows
-pub mod Parts
 pub mod Walks
 pub mod Midway
 pub mod Places
 pub mod Gathering
 pub mod Closing
 pub mod Cells
-pub mod Standing
 pub mod Newness

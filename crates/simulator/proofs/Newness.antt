@@ -9,7 +9,7 @@ use Rattle.simulator.specs.declared.site.Setting.{Setting}
 use Rattle.simulator.specs.declared.site.Site.{Site}
 use Rattle.simulator.specs.Meaning.{meaning, meanings, all_cells}
 use Rattle.simulator.specs.Fresh.{fresh_site, fresh_sites, bits_in, plain}
-use Rattle.simulator.specs.NetworkFits.{length_row_flaws}
+use Rattle.simulator.specs.Parts.{length_row_flaws}
 use Rattle.simulator.proofs.Cells.{built_cells, all_built}
 
 bits_in_append : (rs qs : List Record) → bits_in (rs ++ qs) ≡ bits_in rs + bits_in qs

@@ -2,4 +2,6 @@ pub mod Round
 pub mod Meaning
 pub mod Simulated
 pub mod Fresh
-pub mod NetworkFits
+pub mod Standing
+pub mod Parts
+pub mod Turns

@@ -8,7 +8,7 @@ ghost use Rattle.scan.specs.Path.{on, path_offered, path_flaws};
 ghost use Rattle.simulator.specs.Meaning.{meanings, dealt, network_of, forced};
 ghost use Rattle.simulator.specs.Simulated.{network, by_network, Emptied, Filled, Turned, LostAll, is_lost};
 ghost use Rattle.simulator.specs.Round.{round};
-ghost use Rattle.simulator.specs.NetworkFits.{network_fits};
+ghost use Rattle.simulator.specs.Standing.{network_fits};
 
 use crate::dealing::{close_all, deal, force_all, gather};
 use crate::network::Simulator;

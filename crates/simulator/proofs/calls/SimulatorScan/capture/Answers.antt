@@ -1,5 +1,5 @@
 use Rattle.std.proofs.Common.{sym, refl}
-use Rattle.simulator.proofs.Standing.{lost_call, captured_law}
+use Rattle.simulator.specs.Standing.{lost_call, captured_law}
 use Rattle.simulator.proofs.calls.SimulatorScan.capture.Goals as goal
 
 pub returns-then-self : goal.returns-then-self

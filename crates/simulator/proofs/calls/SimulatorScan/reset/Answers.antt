@@ -1,5 +1,5 @@
 use Rattle.std.proofs.Common.{sym, refl, inl}
-use Rattle.simulator.proofs.Standing.{lost_call}
+use Rattle.simulator.specs.Standing.{lost_call}
 use Rattle.simulator.proofs.calls.SimulatorScan.reset.Goals as goal
 
 pub returns-then-self : goal.returns-then-self

@@ -4,7 +4,7 @@ use Rattle.scan.specs.Moves.{first, moved}
 use Rattle.simulator.specs.Meaning.{meanings, stuck_places, forced}
 use Rattle.simulator.specs.Round.{round}
 use Rattle.simulator.proofs.Places.{forced_is_shown}
-use Rattle.simulator.specs.NetworkFits.{length_round}
+use Rattle.simulator.specs.Turns.{length_round}
 use Rattle.simulator.proofs.network.Simulator.turn.Goals as goal
 
 pub returns : goal.returns

@@ -1,5 +1,5 @@
 use Rattle.std.proofs.Common.{rules}
-use Rattle.simulator.proofs.Turns.{set_before_end, set_after_end, set_past_end}
+use Rattle.simulator.specs.Turns.{set_before_end, set_after_end, set_past_end}
 use Rattle.simulator.proofs.ring.Ring.force.Goals as goal
 use Rattle.simulator.proofs.ring.Ring.force.Goals.{then-place-length-2, else-place-length-2}
 

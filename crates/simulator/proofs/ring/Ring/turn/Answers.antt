@@ -1,6 +1,6 @@
 use Rattle.std.proofs.Common.{◌≡◌, ◌<◌, ◌≤◌, length, rules}
 use Rattle.simulator.specs.Round.{round}
-use Rattle.simulator.proofs.Turns.{wrapped, turn_out, turn_bits}
+use Rattle.simulator.specs.Turns.{wrapped, turn_out, turn_bits}
 use Rattle.simulator.proofs.ring.Ring.turn.Goals as goal
 use Rattle.simulator.proofs.ring.Ring.turn.Goals.{then-self-len, else-self-len}
 

@@ -1,5 +1,5 @@
 use Rattle.std.proofs.Common.{false, sym, ◌∙◌, arith}
-use Rattle.simulator.proofs.Parts.{part_live, offering_more, offering_all}
+use Rattle.simulator.specs.Parts.{part_live, offering_more, offering_all}
 use Rattle.simulator.proofs.site.Site.offer_onto.Goals as goal
 
 pub append-requires-in-loop-held : goal.append-requires-in-loop-held

@@ -1,5 +1,5 @@
 use Rattle.std.proofs.Common.{sym, ◌∙◌, rules}
-use Rattle.simulator.proofs.Parts.{part_live}
+use Rattle.simulator.specs.Parts.{part_live}
 use Rattle.simulator.proofs.Places.{stuck_none, stuck_shut, stuck_past, stuck_live}
 use Rattle.simulator.proofs.site.Site.stuck_on.Goals as goal
 

@@ -1,5 +1,5 @@
 use Rattle.std.proofs.Common.{false, drop, sym, arith, rules}
-use Rattle.simulator.proofs.Parts.{part_live, part_shut, first_from, put_shut, put_live, cut_out}
+use Rattle.simulator.specs.Parts.{part_live, part_shut, first_from, put_shut, put_live, cut_out}
 use Rattle.simulator.proofs.site.Site.take.Goals as goal
 
 pub returns-then-not-is_live : goal.returns-then-not-is_live

@@ -1,11 +1,10 @@
 -- A ring that turns by one bit, and one that is changed at a place.
 use Rattle.std.specs.Prelude.{◌≡◌, ℕ, ◌+◌, ◌-◌, ◌<◌, ◌≤◌, Bool, List, [], ◌∷◌, length, take, drop, slice_index_or, slice_set}
-use Rattle.std.proofs.Common.{sym, append_assoc, arith, length-drop}
+use Rattle.std.proofs.Common.{sym, ap, append_assoc, arith, length-append, take-append-drop, length-drop}
 use Rattle.std.proofs.lemmas.List.{append-nil, take_all, drop_all, drop_more, take_more_set, drop-set-lt, take-set-le, drop-set-add, set-append_left, set-append_right, set_past}
 use Rattle.std.proofs.Math.Seq.{take-set-lt}
 use Rattle.scan.specs.Moves.{first, moved}
 use Rattle.simulator.specs.Round.{round}
-use Rattle.simulator.specs.NetworkFits.{length_round}
 
 -- a head at the end reads as one at the start
 pub wrapped : (xs : List Bool) (h : ℕ) → length xs ≤ h → round xs h ≡ round xs 0
@@ -18,6 +17,10 @@ pub turn_bits : (xs : List Bool) (h : ℕ) (bit : Bool) → h < length xs → ro
 turn_bits xs h bit lt =
     rw (drop_more xs h bit lt, drop-set-lt (h + 1) xs h bit (omega arith), take_more_set xs h bit lt)
     (sym (append_assoc (drop (h + 1) xs) (take h xs) (bit ∷ [])))
+
+pub length_round : (xs : List Bool) (h : ℕ) → length (round xs h) ≡ length xs
+length_round xs h =
+    omega (arith, length-append (drop h xs) (take h xs), length-append (take h xs) (drop h xs), ap length (take-append-drop h xs))
 
 -- a place before the end of the list, and one after it
 pub set_before_end : (xs : List Bool) (h p : ℕ) (bit : Bool) → h ≤ length xs → p < length xs - h → round (slice_set xs (h + p) bit) h ≡ slice_set (round xs h) p bit

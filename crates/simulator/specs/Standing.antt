@@ -1,22 +1,44 @@
 -- What a simulator stands for, before and after each of its calls.
-use Rattle.std.specs.Prelude.{◌≡◌, ℕ, Bool, true, false, List, [], ◌∷◌, map, length, drop, vec_items, refl}
-use Rattle.std.proofs.Common.{sym, ap, ◌∙◌}
-use Rattle.std.proofs.lemmas.List.{append-nil}
+use Rattle.std.specs.Prelude.{◌≡◌, ℕ, Bool, true, false, not, List, [], ◌∷◌, map, length, drop, vec_items, vec_len, refl}
+use Rattle.std.proofs.Common.{sym, ap, ◌∙◌, arith}
+use Rattle.std.proofs.lemmas.List.{append-nil, length-map}
 use Rattle.scan.specs.Network as model
 use Rattle.scan.specs.Network.{Each, Fits, shown, build_of, latch_of, held_of}
-use Rattle.scan.specs.Path.{on, path, path_offered, flaws_of}
+use Rattle.scan.specs.Path.{on, path, path_offered, path_flaws, flaws_of}
 use Rattle.scan.specs.Moves.{put, fill, spread, each, capture, shift, update, updated, first}
 use Rattle.scan.specs.Calls.{LostCall, after_capture, after_shift, after_update}
 use Rattle.scan.proofs.Fill.{map_spread, on_fill, path_fill, capture_is_fill}
 use Rattle.scan.proofs.Queue.{shift_fill}
+use Rattle.scan.proofs.Sizes.{length_path, fits_fill}
 use Rattle.refusal.specs.declared.ScanFault.{ScanFault}
+use Rattle.simulator.specs.declared.site.Offer.{Offer}
+use Rattle.simulator.specs.declared.site.Offer.TheVariants.{Keeps, Inverts}
 use Rattle.simulator.specs.declared.site.Phase.{Phase}
 use Rattle.simulator.specs.declared.site.Phase.TheVariants.{Rest, Scan, Broken}
+use Rattle.simulator.specs.declared.site.Site.{Site}
 use Rattle.simulator.specs.declared.network.Simulator.{Simulator}
-use Rattle.simulator.specs.Meaning.{meanings, sites_now, phase_of}
+use Rattle.simulator.specs.Meaning.{meaning, meanings, offer_of, sites_now, phase_of}
 use Rattle.simulator.specs.Simulated.{network, LostAll, Emptied, Filled, Turned}
 use Rattle.simulator.specs.Round.{round}
-use Rattle.simulator.specs.NetworkFits.{sites_fit, scan_bits}
+use Rattle.simulator.specs.Parts.{length_row_flaws}
+use Rattle.simulator.specs.Turns.{length_round}
+
+offer_length : (o : Offer) (n : ℕ) (bs : List Bool) → length bs ≡ n → length (offer_of o bs) ≡ n
+offer_length Keeps n bs e = e
+offer_length Inverts n bs e = length-map bs not ∙ e
+
+site_fits : (s : Site) → Fits (meaning s)
+site_fits s =
+    let n = length_row_flaws (length (vec_items s.row)) s.fault in
+    record {
+      row = sym n;
+      held = omega (arith, n, s.even, s.row.ok.0, s.held.ok.0);
+      offer = λ bs e. offer_length s.offer _ bs e;
+    }
+
+pub sites_fit : (ss : List Site) → Each Fits (meanings ss)
+sites_fit [] = tt
+sites_fit (s ∷ ss) = (site_fits s, sites_fit ss)
 
 -- what the path's cells do not touch is the same in every phase
 kept_now : {X : Type 0} (g : model.Site → X) → ((m : model.Site) (bs : List Bool) → g (put m bs) ≡ g m)
@@ -38,6 +60,21 @@ lost_call s t e w = record {
   latches = kept_lost latch_of (λ _ _. refl) s t w.sites;
   held = kept_lost held_of (λ _ _. refl) s t w.sites;
 }
+
+scan_bits : (s : Simulator) → s.phase ≡ Scan → length (round (vec_items s.path.bits) s.path.head) ≡ length (path_flaws (meanings (vec_items s.sites)))
+scan_bits s e =
+    let cells : length (path_flaws (meanings (vec_items s.sites))) ≡ vec_len s.path.bits = rw e at s.cells in
+    length_round (vec_items s.path.bits) s.path.head ∙ sym s.path.bits.ok.0 ∙ sym cells
+
+fits_in : (s : Simulator) (p : Phase) → s.phase ≡ p → Each Fits (sites_now p (meanings (vec_items s.sites)) (round (vec_items s.path.bits) s.path.head))
+fits_in s Rest e = sites_fit (vec_items s.sites)
+fits_in s Broken e = sites_fit (vec_items s.sites)
+fits_in s Scan e =
+    let fits = sites_fit (vec_items s.sites) in
+    fits_fill (meanings (vec_items s.sites)) _ fits (scan_bits s e ∙ sym (length_path (meanings (vec_items s.sites)) fits))
+
+pub network_fits : (s : Simulator) → Each Fits (network s).sites
+network_fits s = fits_in s s.phase refl
 
 -- two networks with the same parts
 same_network : {ss ts : List model.Site} {p q : model.Phase} {n m : ℕ} → ss ≡ ts → p ≡ q → n ≡ m

@@ -1,16 +1,20 @@
 -- One site's part of the path.
-use Rattle.std.specs.Prelude.{◌≡◌, ℕ, suc, ◌+◌, ◌-◌, ◌<◌, ◌≤◌, Bool, true, false, cond, not, List, [], ◌∷◌, ◌++◌, length, take, drop, vec_items, slice_index_or, refl}
+use Rattle.std.specs.Prelude.{◌≡◌, ℕ, suc, ◌+◌, ◌-◌, ◌<◌, ◌≤◌, Bool, true, false, cond, not, List, [], ◌∷◌, ◌++◌, length, take, drop, replicate, Some, None, vec_items, Option, slice_index_or, refl}
 use Rattle.std.proofs.Common.{sym, ap, ◌∙◌, arith}
-use Rattle.std.proofs.lemmas.List.{take_more, map_more, append_assoc, take_all, at_drop_more, drop-drop}
+use Rattle.std.proofs.lemmas.List.{length-replicate, length-set, take_more, map_more, append_assoc, take_all, at_drop_more, drop-drop}
 use Rattle.scan.specs.Network as model
 use Rattle.scan.specs.Network.{sound, stuck, shown, live}
 use Rattle.scan.specs.Moves.{first, put}
 use Rattle.scan.specs.Path.{flaws_of, offered}
 use Rattle.simulator.specs.declared.site.Offer.{Offer}
 use Rattle.simulator.specs.declared.site.Offer.TheVariants.{Keeps, Inverts}
+use Rattle.simulator.specs.declared.site.Stuck.{Stuck}
 use Rattle.simulator.specs.declared.site.Site.{Site}
 use Rattle.simulator.specs.Meaning.{row_flaws, meaning, offer_of, offered_bit}
-use Rattle.simulator.specs.NetworkFits.{length_row_flaws}
+
+pub length_row_flaws : (n : ℕ) (o : Option Stuck) → length (row_flaws n o) ≡ n
+length_row_flaws n None = length-replicate n sound
+length_row_flaws n (Some f) = length-set (replicate n sound) f.cell (stuck f.bit) ∙ length-replicate n sound
 
 pub part_live : (s : Site) → live (meaning s) ≡ true → length (flaws_of (meaning s)) ≡ suc (length (vec_items s.row))
 part_live s e = rw e (ap suc (length_row_flaws (length (vec_items s.row)) s.fault))
