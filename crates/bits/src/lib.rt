@@ -32,32 +32,34 @@ fn with_bit(byte: u8, place: usize, bit: bool) -> u8
     }
 }
 
-// The bit at a place of a byte of the row, if the row has it.
-pub fn take_bit(bytes: &[u8], byte: usize, place: usize) -> Option<bool>
-    ensures value { result ≡ taken bytes.now byte place }
-    ensures in_row { ReadsItsPlace bytes.now byte place result }
+// The bit at a place of the row, if the row has it.
+pub fn take_bit(bytes: &[u8], at: BitPlace) -> Option<bool>
+    ensures value { result ≡ taken bytes.now at.byte at.place }
+    ensures in_row { ReadsItsPlace bytes.now at.byte at.place result }
 {
-    if byte >= bytes.len() || place >= 8 {
+    if at.place >= 8 {
         return None;
     }
-    Some(bit_in(bytes[byte], place))
+    let byte = bytes.get(at.byte)?;
+    Some(bit_in(*byte, at.place))
 }
 
-// Stores a bit at a place of a byte of the row; None where the row has no such place.
-pub fn store_bit(bytes: &mut [u8], byte: usize, place: usize, bit: bool) -> Option<()>
-    ensures test { is_some result ≡ has_place bytes.old byte place }
-    ensures after { bytes.new ≡ stored bytes.old byte place bit }
-    ensures in_row { ChangesItsPlace bytes.old byte place bit bytes.new }
+// Stores a bit at a place of the row; None where the row has no such place.
+pub fn store_bit(bytes: &mut [u8], at: BitPlace, bit: bool) -> Option<()>
+    ensures test { is_some result ≡ has_place bytes.old at.byte at.place }
+    ensures after { bytes.new ≡ stored bytes.old at.byte at.place bit }
+    ensures in_row { ChangesItsPlace bytes.old at.byte at.place bit bytes.new }
 {
-    if byte >= bytes.len() || place >= 8 {
+    // An index after a test, and no `get_mut`: with that the proof did not close, since no answer can cite what it leaves.
+    if at.byte >= bytes.len() || at.place >= 8 {
         return None;
     }
-    bytes[byte] = with_bit(bytes[byte], place, bit);
+    bytes[at.byte] = with_bit(bytes[at.byte], at.place, bit);
     Some(())
 }
 
 // A place in a row of bits, as a byte and the place inside it, so that going on takes no division.
-#[derive(Clone, Copy)]
+#[derive(Clone, Copy, Debug, PartialEq, Eq, PartialOrd, Ord)]
 pub struct BitPlace {
     pub byte: usize,
     pub place: usize,
@@ -77,8 +79,8 @@ impl BitPlace {
     {
         if self.place < 7 {
             return BitPlace {
-                byte: self.byte,
                 place: self.place + 1,
+                ..self
             };
         }
         BitPlace {
@@ -92,7 +94,7 @@ impl BitPlace {
         ensures value { result ≡ skipped self count }
         ensures flat { FlatAfter self count result }
     {
-        let places = self.place % 8 + count as usize;
+        let places = self.place % 8 + usize::from(count);
         BitPlace {
             byte: self.byte.wrapping_add(places / 8),
             place: places % 8,

@@ -7,7 +7,7 @@ ghost use Rattle.command.specs.Words.{word_of, control_word, data_word, fits_con
 
 use refusal::Refusal;
 
-#[derive(Clone, Copy)]
+#[derive(Clone, Copy, Debug, PartialEq, Eq)]
 pub enum Command<'a> {
     Control { number: usize, write: bool },
     Test,
@@ -16,7 +16,8 @@ pub enum Command<'a> {
     Data(&'a [u8]),
 }
 
-#[derive(Clone, Copy)]
+// A command and what is left of the input: a record of its own, since its part's name says more than a generic pair's would.
+#[derive(Clone, Copy, Debug, PartialEq, Eq)]
 pub struct Next<'a> {
     pub command: Command<'a>,
     pub rest: &'a [u8],
@@ -26,25 +27,17 @@ pub struct Next<'a> {
 pub const MOST_DATA: usize = 32_767;
 
 // A control word holds at most this number.
-const MOST_NUMBER: usize = 16_383;
+const MOST_NUMBER: u16 = 16_383;
 
 const WRITE: u16 = 0x4000;
 
 const DATA: u16 = 0x8000;
 
-// The word of the first two bytes.
-fn first_word(input: &[u8]) -> u16
-    requires { 2 ≤ length input.now }
-    ensures { result ≡ word_of input.now }
-{
-    u16::from_be_bytes([input[0], input[1]])
-}
-
 // How many bytes follow a word.
 fn following(word: u16) -> usize
     ensures { result ≡ following word }
 {
-    word.saturating_sub(DATA) as usize
+    usize::from(word.saturating_sub(DATA))
 }
 
 // The command that a word begins and what is left of the bytes after it, which are known to be there.
@@ -61,14 +54,14 @@ fn command_of(word: u16, after: &[u8]) -> (Command<'_>, &[u8])
         }
         number if word < WRITE => (
             Command::Control {
-                number: number as usize,
+                number: usize::from(number),
                 write: false,
             },
             after,
         ),
         _ => (
             Command::Control {
-                number: (word - WRITE) as usize,
+                number: usize::from(word - WRITE),
                 write: true,
             },
             after,
@@ -83,9 +76,8 @@ pub fn next_command(input: &[u8]) -> Result<Option<Next<'_>>, Refusal>
     match input {
         [] => Ok(None),
         [_] => Err(Refusal::CutShort),
-        _ => {
-            let word = first_word(input);
-            let (_, after) = input.split_at(2);
+        [high, low, after @ ..] => {
+            let word = u16::from_be_bytes([*high, *low]);
             if after.len() < following(word) {
                 return Err(Refusal::CutShort);
             }
@@ -99,14 +91,11 @@ pub fn next_command(input: &[u8]) -> Result<Option<Next<'_>>, Refusal>
 pub fn control_bytes(number: usize, write: bool) -> Option<[u8; 2]>
     ensures { result ≡ (if fits_control number then Some (bytes_of (control_word number write)) else None) }
 {
-    if number == 0 || number > MOST_NUMBER {
+    let number = u16::try_from(number).ok()?;
+    if !(1..=MOST_NUMBER).contains(&number) {
         return None;
     }
-    let word = if write {
-        WRITE + number as u16
-    } else {
-        number as u16
-    };
+    let word = if write { WRITE + number } else { number };
     Some(word.to_be_bytes())
 }
 
@@ -117,6 +106,6 @@ pub fn data_bytes(n: usize) -> Option<[u8; 2]>
     if n > MOST_DATA {
         return None;
     }
-    let word = DATA + n as u16;
-    Some(word.to_be_bytes())
+    let n = u16::try_from(n).ok()?;
+    Some((DATA + n).to_be_bytes())
 }

@@ -4,87 +4,64 @@ use crate::group::{Action, Order};
 use bits::{BitPlace, store_bit};
 use command::{control_bytes, data_bytes};
 use refusal::Refusal;
-use std::alloc::Global;
+use std::alloc::{AllocError, Global};
+use std::cmp::Reverse;
 
-// A write, as the data bytes have it: by number.
-#[derive(Clone, Copy, PartialEq, Eq, PartialOrd, Ord)]
-struct Write {
-    number: usize,
-    first: usize,
-    length: usize,
-}
-
-// The writes among the orders, the lowest number first.
-fn writes_of(heap: Global, orders: &[Order]) -> Result<Vec<Write>, HostFault> {
-    let mut writes = Vec::new(heap);
-    for order in orders {
-        if let Action::Write { first } = order.action {
-            writes.push(Write {
-                number: order.number,
-                first,
-                length: order.length,
-            })?;
+impl Order {
+    // The bits that are to be written.
+    fn bits(&self) -> Option<&[bool]> {
+        match &self.action {
+            Action::Read => None,
+            Action::Write { bits } => Some(bits.as_slice()),
         }
     }
-    writes.sort_unstable();
-    Ok(writes)
 }
 
-fn bits_in(writes: &[Write]) -> usize {
-    let mut sum: usize = 0;
-    for write in writes {
-        sum = sum.saturating_add(write.length);
-    }
-    sum
+// The bits of the writes among the orders, those of the highest number first. No two orders have one number.
+fn sent_bits(heap: Global, orders: &[Order]) -> Result<Vec<&[bool]>, AllocError> {
+    let mut by_number: Vec<&Order> = orders.iter().collect(heap)?;
+    by_number.sort_unstable_by_key(|order| Reverse(order.number));
+    by_number
+        .iter()
+        .filter_map(|order| order.bits())
+        .collect(heap)
 }
 
-// Stores a write's bits from a place on; answers the place after them.
-fn store_write(data: &mut [u8], from: BitPlace, write: Write, bits: &[bool]) -> BitPlace {
-    let mut at = from;
-    for k in 0..write.length {
-        let bit = bits
-            .get(write.first.saturating_add(k))
-            .copied()
-            .unwrap_or(false);
-        let _ = store_bit(data, at.byte, at.place, bit);
-        at = at.next();
-    }
-    at
+// How many bytes the bits fill.
+fn data_size(writes: &[&[bool]]) -> usize {
+    writes
+        .iter()
+        .fold(0usize, |count, bits| count.saturating_add(bits.len()))
+        .div_ceil(8)
 }
 
-// The data bytes: bits by number, the highest first, and zero pad bits.
-fn data_of(heap: Global, writes: &[Write], bits: &[bool]) -> Result<Vec<u8>, HostFault> {
-    let size = bits_in(writes).div_ceil(8);
-    if size > command::MOST_DATA {
-        return Err(HostFault::Refused(Refusal::GroupTooLong));
-    }
+// The bits in so many bytes, and zero pad bits.
+fn packed(heap: Global, writes: &[&[bool]], size: usize) -> Result<Vec<u8>, AllocError> {
     let mut data = vec![in heap; 0u8; size]?;
+    // The place goes on bit by bit, with no division.
     let mut at = BitPlace::start();
-    for write in writes.iter().rev() {
-        at = store_write(data.as_mut_slice(), at, *write, bits);
+    for bit in writes.iter().copied().flatten() {
+        let _ = store_bit(data.as_mut_slice(), at, *bit);
+        at = at.next();
     }
     Ok(data)
 }
 
 // The command bytes of a group: a control word for each order as given, then one data command.
-pub(crate) fn encode(heap: Global, orders: &[Order], bits: &[bool]) -> Result<Vec<u8>, HostFault> {
+pub(crate) fn encode(heap: Global, orders: &[Order]) -> Result<Vec<u8>, HostFault> {
     if orders.is_empty() {
-        return Err(HostFault::Refused(Refusal::NothingChosen));
+        return Err(Refusal::NothingChosen.into());
     }
-    let writes = writes_of(heap, orders)?;
-    let data = data_of(heap, writes.as_slice(), bits)?;
+    let writes = sent_bits(heap, orders)?;
+    let size = data_size(writes.as_slice());
+    let data_word = data_bytes(size).ok_or(Refusal::GroupTooLong)?;
     let mut command = Vec::new(heap);
     for order in orders {
-        let write = matches!(order.action, Action::Write { .. });
-        let Some(word) = control_bytes(order.number, write) else {
-            return Err(HostFault::Refused(Refusal::NoInstrument));
-        };
+        let write = order.bits().is_some();
+        let word = control_bytes(order.number, write).ok_or(Refusal::NoInstrument)?;
         command.extend_from_slice(&word)?;
     }
-    let Some(word) = data_bytes(data.len()) else {
-        return Err(HostFault::Refused(Refusal::GroupTooLong));
-    };
-    command.extend_from_slice(&word)?;
-    command.extend_from_slice(data.as_slice())?;
+    command.extend_from_slice(&data_word)?;
+    command.extend_from_slice(packed(heap, writes.as_slice(), size)?.as_slice())?;
     Ok(command)
 }

@@ -1,19 +1,22 @@
 // A group takes orders; iApply ends it and gives its command bytes and a pending reply.
+ghost use Rattle.std.specs.Prelude.{◌≡◌, OnErr, MatchResult};
+
 use crate::encoder::encode;
 use crate::fault::HostFault;
 use refusal::Refusal;
 use std::alloc::{AllocError, Global};
 use table::{Record, check_table, find_instrument};
 
-#[derive(Clone, Copy)]
+#[derive(Drop)]
 pub enum Action {
     Read,
-    // Its bits begin here among the group's.
-    Write { first: usize },
+    // The first of the bits is shifted first.
+    Write { bits: Vec<bool> },
 }
 
-// An order keeps what it needs of its instrument, so that nothing after it asks for the table.
-#[derive(Clone, Copy)]
+// An order keeps what it needs of its instrument, so that nothing after it asks for the table. Every order has its length, a
+// write's too, since a reply is taken apart by the lengths of all.
+#[derive(Drop)]
 pub struct Order {
     pub number: usize,
     pub length: usize,
@@ -23,10 +26,9 @@ pub struct Order {
 #[derive(Drop)]
 pub struct Group {
     orders: Vec<Order>,
-    bits: Vec<bool>,
 }
 
-// A reply that is still to come, for these orders.
+// A reply that is still to come, for these orders. A type of its own beside `Group`: what was sent takes no more orders.
 #[derive(Drop)]
 pub struct Pending {
     orders: Vec<Order>,
@@ -45,71 +47,64 @@ pub struct Unsent {
     pub fault: HostFault,
 }
 
-// The length of the instrument that an order names, which no earlier order has named.
-fn look_up(table: &[Record], orders: &[Order], number: usize) -> Result<usize, HostFault> {
-    check_table(table)?;
-    let Some(record) = find_instrument(table, number) else {
-        return Err(HostFault::Refused(Refusal::NoInstrument));
-    };
-    for order in orders {
-        if order.number == number {
-            return Err(HostFault::Refused(Refusal::AlreadyChosen));
-        }
-    }
-    Ok(record.length as usize)
-}
-
 impl Group {
     pub fn new(heap: Global) -> Group {
         Group {
             orders: Vec::new(heap),
-            bits: Vec::new(heap),
         }
     }
 
-    // Orders an instrument to be read.
-    pub fn get(&mut self, table: &[Record], number: usize) -> Result<(), HostFault> {
-        let length = look_up(table, self.orders.as_slice(), number)?;
+    // The length of the instrument that an order names, which no earlier order has named.
+    fn look_up(&self, table: &[Record], number: usize) -> Result<usize, HostFault> {
+        check_table(table)?;
+        // `let .. else`: a rule of the project for the look-up of an order (docs/DECISIONS.md).
+        let Some(record) = find_instrument(table, number) else {
+            return Err(Refusal::NoInstrument.into());
+        };
+        if self.orders.iter().any(|order| order.number == number) {
+            return Err(Refusal::AlreadyChosen.into());
+        }
+        Ok(usize::from(record.length))
+    }
+
+    // Orders an instrument to be read. Refused, the group stays as it was.
+    pub fn get(&mut self, table: &[Record], number: usize) -> Result<(), HostFault>
+        ensures { OnErr result (self.new.orders.items ≡ self.old.orders.items) }
+    {
+        let order = Order {
+            number,
+            length: self.look_up(table, number)?,
+            action: Action::Read,
+        };
+        self.orders.push(order)?;
+        Ok(())
+    }
+
+    // Orders an instrument to be written; the first of the bits is shifted first. Refused, the group stays as it was.
+    pub fn write(&mut self, table: &[Record], number: usize, bits: &[bool]) -> Result<(), HostFault>
+        ensures { OnErr result (self.new.orders.items ≡ self.old.orders.items) }
+    {
+        let length = self.look_up(table, number)?;
+        if bits.len() != length {
+            return Err(Refusal::DigitCount.into());
+        }
+        let bits = Vec::from_slice(*self.orders.allocator(), bits)?;
         self.orders.push(Order {
             number,
             length,
-            action: Action::Read,
+            action: Action::Write { bits },
         })?;
         Ok(())
     }
 
-    // Orders an instrument to be written; the first of the bits is shifted first.
-    pub fn write(
-        &mut self,
-        table: &[Record],
-        number: usize,
-        bits: &[bool],
-    ) -> Result<(), HostFault> {
-        let length = look_up(table, self.orders.as_slice(), number)?;
-        if bits.len() != length {
-            return Err(HostFault::Refused(Refusal::DigitCount));
-        }
-        let first = self.bits.len();
-        if self.bits.extend_from_slice(bits).is_err() {
-            return Err(HostFault::Memory);
-        }
-        let order = Order {
-            number,
-            length,
-            action: Action::Write { first },
-        };
-        if self.orders.push(order).is_err() {
-            self.bits.truncate(first);
-            return Err(HostFault::Memory);
-        }
-        Ok(())
-    }
-
     // Ends the group: its command bytes go out, and its reply is pending.
-    pub fn apply(self, heap: Global) -> Result<Sent, Unsent> {
-        match encode(heap, self.orders.as_slice(), self.bits.as_slice()) {
+    pub fn apply(self, heap: Global) -> Result<Sent, Unsent>
+        ensures { MatchResult result (λ s. s.pending.orders ≡ self.orders) (λ u. u.group ≡ self) }
+    {
+        // No `?`: a refused group goes back with its refusal.
+        match encode(heap, self.orders.as_slice()) {
             Ok(command) => {
-                let Group { orders, bits: _ } = self;
+                let Group { orders } = self;
                 Ok(Sent {
                     command,
                     pending: Pending { orders },
@@ -121,13 +116,13 @@ impl Group {
 
     // Gives an unsent group up.
     pub fn abandon(self) {
-        let Group { orders: _, bits: _ } = self;
+        drop(self);
     }
 }
 
 impl Pending {
     // Gives the reply up unread.
     pub fn write_off(self) {
-        let Pending { orders: _ } = self;
+        drop(self);
     }
 }

@@ -1,5 +1,5 @@
 // The host: groups of orders, and the command bytes that carry them out.
-// So far its functions are proved to be safe and to end, and what they answer is tested.
+// A refused order leaves its group as it was, and a refused group comes back; what the bytes say is so far tested only.
 #![tactic(auto)]
 
 mod encoder;

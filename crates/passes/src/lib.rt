@@ -1,10 +1,9 @@
 // Passes and runs over any scan transport.
 // A run wants some instruments: it opens the way to them one level at a time, and then shifts through them.
-// So far its functions are proved to be safe and to end, and what they shift is tested.
+// `run_group` promises, for every transport and every table that passes its test, what a run leaves of the network and of the
+// buffer, and how many bits it shifts; or at which pass a call was lost (specs/Runs.antt).
 #![tactic(auto)]
 
-mod path;
-mod plan;
 mod run;
 
 pub use run::run_group;

@@ -1,98 +1,48 @@
 // What a run shifts.
-use crate::path::path_len;
-use crate::plan::{Plan, Wanted};
-use bits::{BitPlace, store_bit, take_bit};
+ghost use Rattle.std.specs.Prelude.{◌≡◌, ℕ, length};
+ghost use Rattle.bits.specs.Order.{row_bits};
+ghost use Rattle.scan.specs.Network.{rest};
+ghost use Rattle.scan.specs.Calls.{Once};
+ghost use Rattle.plan.specs.Order.{shapes};
+ghost use Rattle.plan.specs.Plans.{table_of, depth_of};
+ghost use Rattle.shifting.specs.Orders.{orders};
+ghost use Rattle.passes.specs.Runs.{RunDoes};
+ghost use Rattle.shifting.specs.Passes.{PassesTest, PassDoes, string_of, sieve_of};
+
+use bits::BitPlace;
+use plan::{Plan, Wanted};
 use refusal::ScanFault;
 use scan::Scan;
+use shifting::shift_sib;
 use table::Record;
 
-fn configuration_pass<S: Scan>(scan: &mut S, plan: &Plan, pass: u8) -> Result<u64, ScanFault> {
-    scan.capture()?;
-    let mut reach: u16 = 1;
-    for number in (1..=plan.records.len()).rev() {
-        if plan.records[number - 1].depth as u16 <= reach {
-            let _ = scan.shift(plan.bit(pass, number))?;
-            reach = plan.reach(pass, number);
-        }
-    }
-    scan.update()?;
-    Ok(path_len(plan, pass))
-}
-
-// Resets the network and opens the way to the wanted instruments; answers how many bits it shifted.
-fn configure<S: Scan>(scan: &mut S, plan: &Plan) -> Result<u64, ScanFault> {
-    scan.reset()?;
-    let mut shifted: u64 = 0;
-    for level in 0..plan.depth {
-        shifted = shifted.wrapping_add(configuration_pass(scan, plan, level + 1)?);
-    }
-    Ok(shifted)
-}
-
-// Shifts the next bits of `sent` into an instrument.
-fn shift_write<S: Scan>(
-    scan: &mut S,
-    length: u16,
-    sent: &[u8],
-    from: BitPlace,
-) -> Result<(), ScanFault> {
-    let mut at = from;
-    for _ in 0..length {
-        let bit = take_bit(sent, at.byte, at.place).unwrap_or(false);
-        let _ = scan.shift(bit)?;
-        at = at.next();
-    }
-    Ok(())
-}
-
-// Shifts ones into an instrument, and what comes out into `kept`.
-fn shift_read<S: Scan>(
-    scan: &mut S,
-    length: u16,
-    kept: &mut [u8],
-    to: BitPlace,
-) -> Result<(), ScanFault> {
-    let mut at = to;
-    for _ in 0..length {
-        let bit = scan.shift(true)?;
-        let _ = store_bit(kept, at.byte, at.place, bit);
-        at = at.next();
-    }
-    Ok(())
-}
-
-fn data_pass<S: Scan>(
+// One pass: a capture, a shift for each cell of the path, and an update. It keeps in `body` what comes out of the instruments
+// read; answers how many bits it shifted, modulo 2^64.
+fn pass<S: Scan>(
     scan: &mut S,
     plan: &Plan,
+    pass: u8,
     sent: &[u8],
-    kept: &mut [u8],
-) -> Result<u64, ScanFault> {
-    let pass = plan.depth.saturating_add(1);
+    body: &mut [u8],
+) -> Result<u64, ScanFault>
+    ensures did { PassesTest (table_of plan.now) → S.valid scan.old → (S.network scan.old).phase ≡ rest → PassDoes S.losses (S.network scan.old) (string_of plan.now (row_bits sent.now) pass) (sieve_of plan.now (row_bits sent.now) pass) (row_bits body.old) result (S.network scan.new) (row_bits body.new) }
+    ensures kept { S.valid scan.old → S.valid scan.new }
+{
+    scan.capture()?;
+    let mut reach: u16 = 1;
     let mut from = BitPlace::start();
     let mut to = BitPlace::start();
-    let mut reach: u16 = 1;
-    scan.capture()?;
-    for number in (1..=plan.records.len()).rev() {
-        let record = plan.records[number - 1];
-        let wanted = plan.wants(number);
-        if record.depth as u16 <= reach {
-            let _ = scan.shift(plan.bit(pass, number))?;
-            reach = plan.reach(pass, number);
-            if wanted && record.write {
-                shift_write(scan, record.length, sent, from)?;
-            }
-            if wanted && !record.write {
-                shift_read(scan, record.length, kept, to)?;
-                to = to.skip(record.length);
-            }
+    // By number, which is a SIB's name, from N down as the path runs.
+    for number in (1..=plan.len()).rev() {
+        if let Some(visit) = plan.visit(pass, reach, number) {
+            reach = visit.reach;
+            to = shift_sib(scan, visit, sent, from, body, to)?;
         }
-        // An excluded write has bits in `sent` too.
-        if record.chosen && record.write {
-            from = from.skip(record.length);
-        }
+        // A write that is excluded, or not on the path, has bits in `sent` too.
+        from = from.skip(plan.sent_bits(number));
     }
     scan.update()?;
-    Ok(path_len(plan, pass))
+    Ok(plan.path_len(pass))
 }
 
 // Writes and reads the chosen instruments that are not excluded; answers how many bits it shifted.
@@ -101,12 +51,16 @@ pub fn run_group<S: Scan>(
     records: &[Record],
     sent: &[u8],
     kept: &mut [u8],
-) -> Result<u64, ScanFault> {
+) -> Result<u64, ScanFault>
+    ensures did { PassesTest records.now → RunDoes S.losses (depth_of Wanted.Chosen records.now) (shapes records.now (length records.now)) (orders Wanted.Chosen records.now (row_bits sent.now)) (S.network scan.old) (row_bits kept.old) result (S.network scan.new) (row_bits kept.new) }
+    ensures made { PassesTest records.now → Once result (S.valid scan.new) }
+    ensures kept { S.valid scan.old → S.valid scan.new }
+{
     let plan = Plan::new(records, Wanted::Chosen);
-    let shifted = configure(scan, &plan)?;
-    if plan.depth == 0 {
-        return Ok(shifted);
+    scan.reset()?;
+    let mut shifted: u64 = 0;
+    for done in 0..plan.passes() {
+        shifted = shifted.wrapping_add(pass(scan, &plan, done + 1, sent, kept)?);
     }
-    let more = data_pass(scan, &plan, sent, kept)?;
-    Ok(shifted.wrapping_add(more))
+    Ok(shifted)
 }

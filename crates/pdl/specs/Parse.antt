@@ -1,6 +1,12 @@
 -- The same language read from the left, as a function of the bytes alone.
-use Rattle.std.specs.Prelude.{ℕ, Bool, cond, List, [], ◌∷◌, Some, None, Ok, Err, codes, Option, Result, ◌==◌}
+use Rattle.std.specs.Prelude.{ℕ, Bool, List, [], ◌∷◌, length, take, drop, take_while, Some, None, Ok, codes, Option, Result, option_map, option_and_then, ok_or, if◌then◌else◌, ◌==◌}
+use Rattle.std.specs.Borrow.{Bor}
+use Rattle.std.specs.List.{prefix_len}
+use Rattle.std.specs.Option.{option_or}
+use Rattle.std.specs.Result.{result_map_both}
+use Rattle.std.specs.Str.{bytes_eq}
 use Rattle.refusal.specs.declared.Refusal.{Refusal}
+use Rattle.refusal.specs.declared.Refusal.TheVariants.{NotStatement}
 use Rattle.pdl.specs.declared.Class.{Class}
 use Rattle.pdl.specs.declared.Class.TheVariants.{Blank, Digit, Bit}
 use Rattle.pdl.specs.declared.Next.{Next}
@@ -12,85 +18,75 @@ member Blank b = blank b
 member Digit b = digit b
 member Bit b = bit b
 
--- the longest front whose bytes pass a test, and what is behind it
-abbrev pub front : (ℕ → Bool) → List ℕ → List ℕ
-front p [] = []
-front p (b ∷ bs) = cond (p b) (b ∷ front p bs) []
-
+-- what is behind the longest front whose bytes pass a test; that front is `take_while`
 abbrev pub behind : (ℕ → Bool) → List ℕ → List ℕ
-behind p [] = []
-behind p (b ∷ bs) = cond (p b) (behind p bs) (b ∷ bs)
+behind p bs = drop (prefix_len p bs) bs
 
 abbrev pub unblanked : List ℕ → List ℕ
 unblanked bs = behind blank bs
 
--- an answer of a reader, by its bytes
-abbrev pub held : {X Y : Type 0} → (X → Y) → Option X → Option Y
-held f None = None
-held f (Some x) = Some (f x)
-
--- what to go on with where there is an answer, and else
-abbrev pub choose : {X Y : Type 0} → Option X → (X → Y) → Y → Y
-choose None f d = d
-choose (Some x) f d = f x
-
 -- the rest after a word
 abbrev pub past : List ℕ → List ℕ → Option (List ℕ)
-past [] bs = Some bs
-past (w ∷ ws) [] = None
-past (w ∷ ws) (b ∷ bs) = cond (w == b) (past ws bs) None
+past word bs = if bytes_eq (take (length word) bs) word then Some (drop (length word) bs) else None
 
 -- one byte or more that pass, and the rest
 abbrev pub run : (ℕ → Bool) → List ℕ → Option (List ℕ × List ℕ)
 run p [] = None
-run p (b ∷ bs) = cond (p b) (Some (b ∷ front p bs, behind p bs)) None
+run p (b ∷ bs) = if p b then Some (take_while p (b ∷ bs), behind p (b ∷ bs)) else None
 
 -- a number, and the rest
 abbrev pub numbered : List ℕ → Option (List ℕ × List ℕ)
 numbered [] = None
-numbered (b ∷ bs) = cond (b == 48) None (run digit (b ∷ bs))
+numbered (b ∷ bs) = if b == 48 then None else run digit (b ∷ bs)
 
--- a gap, a word, and what is read after it
-abbrev pub after_gap : List ℕ → (List ℕ → Option (List ℕ × List ℕ)) → List ℕ → Option (List ℕ × List ℕ)
-after_gap word read bs = choose (run blank bs) (λ gap. choose (past word gap.1) read None) None
+-- the rest after a gap and a word
+abbrev pub after_gap : List ℕ → List ℕ → Option (List ℕ)
+after_gap word bs = option_and_then (λ gap. past word gap.1) (run blank bs)
 
 abbrev pub number_after : List ℕ → Option (List ℕ × List ℕ)
-number_after bs = after_gap (codes "i") numbered bs
+number_after bs = option_and_then numbered (after_gap (codes "i") bs)
 
 abbrev pub digits_after : List ℕ → Option (List ℕ × List ℕ)
-digits_after bs = after_gap (codes "0b") (run bit) bs
+digits_after bs = option_and_then (run bit) (after_gap (codes "0b") bs)
+
+-- what a statement says, and the rest after its `;`
+abbrev pub closed : Spoken → List ℕ → Option (Spoken × List ℕ)
+closed s bs = option_map (λ rest. (s, rest)) (past (codes ";") bs)
 
 abbrev pub get_after : List ℕ → Option (Spoken × List ℕ)
-get_after bs = choose (number_after bs) (λ n. choose (past (codes ";") n.1) (λ rest. Some (get n.0, rest)) None) None
+get_after bs = option_and_then (λ n. closed (get n.0) n.1) (number_after bs)
 
 abbrev pub write_after : List ℕ → Option (Spoken × List ℕ)
-write_after bs =
-    choose (number_after bs) (λ n. choose (digits_after n.1) (λ ds. choose (past (codes ";") ds.1) (λ rest. Some (write n.0 ds.0, rest)) None) None) None
+write_after bs = option_and_then (λ n. option_and_then (λ ds. closed (write n.0 ds.0) ds.1) (digits_after n.1)) (number_after bs)
+
+-- each statement, from its first word on
+abbrev pub write_at : List ℕ → Option (Spoken × List ℕ)
+write_at bs = option_and_then write_after (past (codes "iWrite") bs)
+
+abbrev pub get_at : List ℕ → Option (Spoken × List ℕ)
+get_at bs = option_and_then get_after (past (codes "iGet") bs)
+
+abbrev pub apply_at : List ℕ → Option (Spoken × List ℕ)
+apply_at bs = option_map (λ rest. (apply, rest)) (past (codes "iApply;") bs)
 
 abbrev pub stated : List ℕ → Option (Spoken × List ℕ)
-stated bs =
-    choose (past (codes "iWrite") bs) write_after
-    (choose (past (codes "iGet") bs) get_after
-    (choose (past (codes "iApply;") bs) (λ rest. Some (apply, rest)) None))
+stated bs = option_or (option_or (write_at bs) (get_at bs)) (apply_at bs)
 
 -- the next thing in a text: its end, a statement with the rest after it, or nothing that is a statement
-pub data Reading : Type 0 where
-  ended : Reading
-  says : Spoken → List ℕ → Reading
-  wrong : Reading
+abbrev pub begun : List ℕ → Result (Option (Spoken × List ℕ)) Refusal
+begun [] = Ok None
+begun (b ∷ bs) = ok_or (option_map Some (stated (b ∷ bs))) NotStatement
 
-abbrev pub begun : List ℕ → Reading
-begun [] = ended
-begun (b ∷ bs) = choose (stated (b ∷ bs)) (λ s. says s.0 s.1) wrong
-
-abbrev pub reading : List ℕ → Reading
+abbrev pub reading : List ℕ → Result (Option (Spoken × List ℕ)) Refusal
 reading text = begun (unblanked text)
+
+-- two parts of a text, by their bytes
+abbrev pub parts : Bor (List ℕ) × Bor (List ℕ) → List ℕ × List ℕ
+parts p = (p.0.now, p.1.now)
 
 -- what the code answers, by its bytes
 abbrev pub told : Next → Spoken × List ℕ
 told n = (spoken n.statement, n.rest.now)
 
-abbrev pub heard : Result (Option Next) Refusal → Reading
-heard (Ok None) = ended
-heard (Ok (Some n)) = says (spoken n.statement) n.rest.now
-heard (Err e) = wrong
+abbrev pub heard : Result (Option Next) Refusal → Result (Option (Spoken × List ℕ)) Refusal
+heard r = result_map_both (option_map told) (λ e. e) r

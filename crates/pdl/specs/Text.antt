@@ -1,5 +1,5 @@
 -- The language: which bytes spell a statement, and what an answer says of the text that it was given.
-use Rattle.std.specs.Prelude.{◌≡◌, ℕ, ◌+◌, ◌-◌, ◌*◌, ◌<◌, Bool, true, false, ◌&&◌, ◌||◌, List, [], ◌∷◌, ◌++◌, length, Some, None, Ok, Err, codes, Option, Result, ◌==◌, ◌≢◌, nat_le}
+use Rattle.std.specs.Prelude.{◌≡◌, ℕ, ◌+◌, ◌-◌, ◌*◌, ◌<◌, Bool, true, false, ◌&&◌, ◌||◌, List, [], ◌∷◌, ◌++◌, length, Some, None, Ok, Err, codes, Option, Result, ◌==◌, ◌≢◌, nat_le, fold}
 use Rattle.std.specs.List.{AllByRecursion}
 use Rattle.refusal.specs.declared.Refusal.{Refusal}
 use Rattle.refusal.specs.declared.Refusal.TheVariants.{NotStatement}
@@ -87,8 +87,7 @@ Shorter text (Err e) = Unit {0}
 
 -- the number that decimal digits write, read on from the number before them
 abbrev pub decimal_after : ℕ → List ℕ → ℕ
-decimal_after n [] = n
-decimal_after n (d ∷ ds) = decimal_after (n * 10 + (d - 48)) ds
+decimal_after n ds = fold (λ m d. m * 10 + (d - 48)) n ds
 
 abbrev pub decimal : List ℕ → ℕ
 decimal ds = decimal_after 0 ds

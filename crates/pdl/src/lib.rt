@@ -3,29 +3,30 @@
 // refuses only where no statement stands.
 #![tactic(auto)]
 
-ghost use Rattle.std.specs.Prelude.{◌≡◌, ℕ, ◌^◌, ◌<◌, List, ◌++◌};
-ghost use Rattle.std.specs.Option.{SomeIff};
+ghost use Rattle.std.specs.Prelude.{◌≡◌, ℕ, ◌+◌, ◌-◌, ◌*◌, IsTrue, ◌^◌, ◌<◌, List, ◌++◌, take_while, option_map, option_copied, SomeIff};
 ghost use Rattle.pdl.specs.Text.{blank, digit, AllOf, Stops, Blanks, Gives, Shorter, decimal};
-ghost use Rattle.pdl.specs.Parse.{member, front, behind, unblanked, held, past, run, number_after, digits_after, get_after, write_after, stated, reading, told, heard};
+ghost use Rattle.pdl.specs.Parse.{member, behind, unblanked, past, run, numbered, after_gap, number_after, digits_after, write_at, get_at, apply_at, stated, reading, parts, told, heard};
 
 use refusal::Refusal;
 
 // What a statement says, by the bytes of the text: a number's decimal digits and a write's binary ones, bare.
-#[derive(Clone, Copy)]
+#[derive(Clone, Copy, Debug, PartialEq, Eq)]
 pub enum Statement<'a> {
     Write { number: &'a [u8], digits: &'a [u8] },
     Get { number: &'a [u8] },
     Apply,
 }
 
-#[derive(Clone, Copy)]
+// A statement and what is left of the text: a record of its own, as that of commands is, for the name of its part.
+#[derive(Clone, Copy, Debug, PartialEq, Eq)]
 pub struct Next<'a> {
     pub statement: Statement<'a>,
     // What follows the statement's `;`.
     pub rest: &'a [u8],
 }
 
-// The bytes that come in runs.
+// The bytes that come in runs. An enum and no closure, since clauses name a class's test by `member`; a closure's would be one
+// more ghost argument of each caller.
 #[derive(Clone, Copy)]
 enum Class {
     Blank,
@@ -38,24 +39,20 @@ impl Class {
         ensures { result ≡ member self byte }
     {
         match self {
-            Class::Blank => byte == b' ' || byte == b'\n',
+            Class::Blank => matches!(byte, b' ' | b'\n'),
             Class::Digit => byte.is_ascii_digit(),
-            Class::Bit => byte == b'0' || byte == b'1',
+            Class::Bit => matches!(byte, b'0' | b'1'),
         }
     }
 }
 
 // The longest front of one class, and what is behind it.
 fn split<'a>(text: &'a [u8], class: Class) -> (&'a [u8], &'a [u8])
-    ensures first { result.0.now ≡ front (member class) text.now }
+    ensures first { result.0.now ≡ take_while (member class) text.now }
     ensures second { result.1.now ≡ behind (member class) text.now }
 {
-    for (i, byte) in text.iter().enumerate() {
-        if !class.has(*byte) {
-            return text.split_at(i);
-        }
-    }
-    text.split_at(text.len())
+    let front = text.iter().take_while(|byte| class.has(**byte)).count();
+    text.split_at(front)
 }
 
 // The text from its first byte that is not a blank.
@@ -69,47 +66,56 @@ pub fn skip_blanks(text: &[u8]) -> &[u8]
 
 // The rest after a word that the text begins with.
 fn strip<'a>(text: &'a [u8], word: &[u8]) -> Option<&'a [u8]>
-    ensures { held (λ x. x.now) result ≡ past word.now text.now }
+    ensures { option_copied result ≡ past word.now text.now }
 {
     text.strip_prefix(word)
 }
 
 // One byte or more of a class, and the rest.
 fn run_of<'a>(text: &'a [u8], class: Class) -> Option<(&'a [u8], &'a [u8])>
-    ensures { held (λ p. (p.0.now, p.1.now)) result ≡ run (member class) text.now }
+    ensures { option_map parts result ≡ run (member class) text.now }
 {
     let (bytes, rest) = split(text, class);
-    if bytes.is_empty() {
-        None
-    } else {
-        Some((bytes, rest))
+    (!bytes.is_empty()).then_some((bytes, rest))
+}
+
+// A number's digits, of which the first is not 0, and the rest.
+fn number(text: &[u8]) -> Option<(&[u8], &[u8])>
+    ensures { option_map parts result ≡ numbered text.now }
+{
+    match text {
+        [b'0', ..] => None,
+        _ => run_of(text, Class::Digit),
     }
 }
 
-// A gap, `i` and a number: the number's digits, of which the first is not 0, and the rest.
-fn number_after(text: &[u8]) -> Option<(&[u8], &[u8])>
-    ensures { held (λ p. (p.0.now, p.1.now)) result ≡ number_after text.now }
+// The rest after a gap and a word.
+fn after_gap<'a>(text: &'a [u8], word: &[u8]) -> Option<&'a [u8]>
+    ensures { option_copied result ≡ after_gap word.now text.now }
 {
     let (_, after) = run_of(text, Class::Blank)?;
-    match strip(after, b"i")? {
-        [b'0', ..] => None,
-        digits => run_of(digits, Class::Digit),
-    }
+    strip(after, word)
+}
+
+// A gap, `i` and a number: the number, and the rest.
+fn number_after(text: &[u8]) -> Option<(&[u8], &[u8])>
+    ensures { option_map parts result ≡ number_after text.now }
+{
+    number(after_gap(text, b"i")?)
 }
 
 // A gap, `0b` and binary digits: the digits, and the rest.
 fn digits_after(text: &[u8]) -> Option<(&[u8], &[u8])>
-    ensures { held (λ p. (p.0.now, p.1.now)) result ≡ digits_after text.now }
+    ensures { option_map parts result ≡ digits_after text.now }
 {
-    let (_, after) = run_of(text, Class::Blank)?;
-    run_of(strip(after, b"0b")?, Class::Bit)
+    run_of(after_gap(text, b"0b")?, Class::Bit)
 }
 
-// A write from after its first word.
-fn write_after(text: &[u8]) -> Option<Next<'_>>
-    ensures { held told result ≡ write_after text.now }
+// A write that the text begins with.
+fn write_at(text: &[u8]) -> Option<Next<'_>>
+    ensures { option_map told result ≡ write_at text.now }
 {
-    let (number, after) = number_after(text)?;
+    let (number, after) = number_after(strip(text, b"iWrite")?)?;
     let (digits, after) = digits_after(after)?;
     let rest = strip(after, b";")?;
     Some(Next {
@@ -118,11 +124,11 @@ fn write_after(text: &[u8]) -> Option<Next<'_>>
     })
 }
 
-// A get from after its first word.
-fn get_after(text: &[u8]) -> Option<Next<'_>>
-    ensures { held told result ≡ get_after text.now }
+// A get that the text begins with.
+fn get_at(text: &[u8]) -> Option<Next<'_>>
+    ensures { option_map told result ≡ get_at text.now }
 {
-    let (number, after) = number_after(text)?;
+    let (number, after) = number_after(strip(text, b"iGet")?)?;
     let rest = strip(after, b";")?;
     Some(Next {
         statement: Statement::Get { number },
@@ -130,16 +136,10 @@ fn get_after(text: &[u8]) -> Option<Next<'_>>
     })
 }
 
-// The statement that the text begins with, with no blanks before it.
-fn statement_at(text: &[u8]) -> Option<Next<'_>>
-    ensures { held told result ≡ stated text.now }
+// An apply that the text begins with.
+fn apply_at(text: &[u8]) -> Option<Next<'_>>
+    ensures { option_map told result ≡ apply_at text.now }
 {
-    if let Some(after) = strip(text, b"iWrite") {
-        return write_after(after);
-    }
-    if let Some(after) = strip(text, b"iGet") {
-        return get_after(after);
-    }
     let rest = strip(text, b"iApply;")?;
     Some(Next {
         statement: Statement::Apply,
@@ -147,7 +147,17 @@ fn statement_at(text: &[u8]) -> Option<Next<'_>>
     })
 }
 
+// The statement that the text begins with, with no blanks before it.
+fn statement_at(text: &[u8]) -> Option<Next<'_>>
+    ensures { option_map told result ≡ stated text.now }
+{
+    write_at(text)
+        .or_else(|| get_at(text))
+        .or_else(|| apply_at(text))
+}
+
 // The next statement and what follows it; `Ok(None)` where only blanks are left.
+#[tactic(auto, using(crate::proofs::Laws::heard_gives, crate::proofs::Laws::heard_shorter))]
 pub fn next_statement(text: &[u8]) -> Result<Option<Next<'_>>, Refusal>
     ensures gives { Gives text.now result }
     ensures shorter { Shorter text.now result }
@@ -157,24 +167,24 @@ pub fn next_statement(text: &[u8]) -> Result<Option<Next<'_>>, Refusal>
     if after.is_empty() {
         return Ok(None);
     }
-    match statement_at(after) {
-        Some(next) => Ok(Some(next)),
-        None => Err(Refusal::NotStatement),
+    statement_at(after).map(Some).ok_or(Refusal::NotStatement)
+}
+
+// The number that one more digit makes of the number before it. `None` where it is 2^64 or more, or the byte is no digit.
+fn with_digit(value: usize, byte: u8) -> Option<usize>
+    ensures { SomeIff result (IsTrue (digit byte) × (value * 10 + (byte - 48) < 2 ^ 64)) (value * 10 + (byte - 48)) }
+{
+    if !Class::Digit.has(byte) {
+        return None;
     }
+    value.checked_mul(10)?.checked_add(usize::from(byte - b'0'))
 }
 
 // The value of decimal digits, however many (of none it is 0). `None` where it is 2^64 or more, or a byte is no digit.
 pub fn number_of(digits: &[u8]) -> Option<usize>
     ensures { SomeIff result (AllOf digit digits.now × (decimal digits.now < 2 ^ 64)) (decimal digits.now) }
 {
-    let mut value: usize = 0;
-    for byte in digits {
-        if !Class::Digit.has(*byte) {
-            return None;
-        }
-        value = value
-            .checked_mul(10)?
-            .checked_add(usize::from(*byte - b'0'))?;
-    }
-    Some(value)
+    digits
+        .iter()
+        .try_fold(0, |value, byte| with_digit(value, *byte))
 }

@@ -6,7 +6,7 @@ use std::io::Read;
 
 fn main(rt: HostRuntime) -> anyhow::Result<()> {
     let mut text = Vec::new(rt.alloc());
-    // One byte more than a text may have tells a text that is too long.
+    // One byte more than a text may have tells a text that is too long. (`as`: `u64` has no `From<usize>`.)
     let _ = rt
         .stdin()
         .take(MOST_TEXT as u64 + 1)

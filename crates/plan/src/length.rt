@@ -1,12 +1,25 @@
 // The length of the active path while a pass shifts.
-ghost use Rattle.std.specs.Prelude.{◌≡◌, ℕ, suc, ◌+◌, ◌-◌, ◌%◌, ◌^◌, ◌<◌, ◌≤◌, Bool, true, false, length};
+// The private functions go by numbers that are known to be in the table, and say so one by one: a type for such a number would
+// hold the plan, and each step down would prove it anew.
+ghost use Rattle.std.specs.Prelude.{◌≡◌, ℕ, suc, ◌+◌, ◌-◌, ◌%◌, ◌^◌, ◌<◌, ◌≤◌, Bool, true, false, length, reverse, take_while, nat_lt};
 ghost use Rattle.retarget.specs.Shapes.{Formed};
 ghost use Rattle.plan.specs.Plans.{table_of, plan_shapes, open_at};
 ghost use Rattle.plan.specs.Order.{shape_at};
 ghost use Rattle.plan.specs.Length.{section, run, seen_at, seen, sib, path_span};
 
 use crate::wanted::Plan;
-use table::Kind;
+use table::{Kind, Record};
+
+// How many records, from the last down, stand deeper than this.
+fn deeper_below(records: &[Record], depth: u8) -> usize
+    ensures { result ≡ length (take_while (λ r. nat_lt depth r.depth) (reverse records.now)) }
+{
+    records
+        .iter()
+        .rev()
+        .take_while(|record| record.depth > depth)
+        .count()
+}
 
 impl<'a> Plan<'a> {
     // Whether a SIB is open while a pass shifts.
@@ -19,21 +32,19 @@ impl<'a> Plan<'a> {
     }
 
     // How many SIBs above `bottom` stand behind this one: the deeper ones among the next lower numbers.
-    fn behind(&self, number: usize, bottom: usize) -> usize
+    pub(crate) fn behind(&self, number: usize, bottom: usize) -> usize
         requires { (bottom < number) × (number ≤ length (table_of self.now)) }
         ensures within { bottom + result < number }
         ensures count { (pass : ℕ) → result ≡ run (shape_at (table_of self.now) number).depth (seen self.now pass (number - 1) bottom) }
     {
-        let depth = self.records[number - 1].depth;
-        for k in (bottom + 1..number).rev() {
-            if self.records[k - 1].depth <= depth {
-                return number - 1 - k;
-            }
-        }
-        number - 1 - bottom
+        deeper_below(
+            &self.records[bottom..number - 1],
+            self.records[number - 1].depth,
+        )
     }
 
-    // A section, here the numbers from `top` down to the one above `bottom`, is as long as its SIBs.
+    // A section, here the numbers from `top` down to the one above `bottom`, is as long as its SIBs. How far the loop goes down at
+    // each turn is how many stand behind a SIB, so no iterator counts it.
     #[cycle(section_len_sib_len)]
     fn section_len(&self, pass: u8, top: usize, bottom: usize) -> u64
         requires { (bottom ≤ top) × (top ≤ length (table_of self.now)) }
@@ -60,7 +71,7 @@ impl<'a> Plan<'a> {
         }
         let record = self.records[number - 1];
         match record.kind {
-            Kind::Instrument => 1 + record.length as u64,
+            Kind::Instrument => u64::from(record.length).wrapping_add(1),
             Kind::Doorway => self.section_len(pass, number - 1, bottom).wrapping_add(1),
         }
     }

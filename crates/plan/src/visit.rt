@@ -3,10 +3,10 @@ ghost use Rattle.std.specs.Prelude.{◌≡◌, ℕ, ◌+◌, ◌≤◌, Bool, tr
 ghost use Rattle.plan.specs.Plans.{table_of, Visits, sent_to, open_at};
 
 use crate::wanted::Plan;
-use table::Kind;
+use table::find_sib;
 
-// The row of a SIB's instrument in a pass.
-#[derive(Clone, Copy)]
+// The row of a SIB's instrument in a pass. Three cases and no `Option` of two: they are told apart in one `match`.
+#[derive(Clone, Copy, Debug, PartialEq, Eq)]
 pub enum Row {
     // It is not on the path.
     Hidden,
@@ -14,7 +14,7 @@ pub enum Row {
     Write { cells: u16 },
 }
 
-#[derive(Clone, Copy)]
+#[derive(Clone, Copy, Debug, PartialEq, Eq)]
 pub struct Visit {
     // What the SIB's own cell gets.
     pub bit: bool,
@@ -28,10 +28,7 @@ impl<'a> Plan<'a> {
     pub fn visit(&self, pass: u8, reach: u16, number: usize) -> Option<Visit>
         ensures { Visits self.now pass reach number result }
     {
-        if number == 0 || number > self.records.len() {
-            return None;
-        }
-        let record = self.records[number - 1];
+        let record = find_sib(self.records, number)?;
         if u16::from(record.depth) > reach {
             return None;
         }
@@ -60,14 +57,8 @@ impl<'a> Plan<'a> {
     pub fn sent_bits(&self, number: usize) -> u16
         ensures { result ≡ sent_to (table_of self.now) number }
     {
-        if number == 0 || number > self.records.len() {
-            return 0;
-        }
-        let record = self.records[number - 1];
-        if record.chosen && record.write {
-            record.length
-        } else {
-            0
-        }
+        find_sib(self.records, number)
+            .filter(|record| record.chosen && record.write)
+            .map_or(0, |record| record.length)
     }
 }

@@ -7,7 +7,7 @@ ghost use Rattle.refusal.specs.Numbers.{refusal_number, table_number, scan_numbe
 ghost use Rattle.refusal.specs.declared.Refusal.TheVariants.{Table, Scan};
 
 // Why a table of SIBs is refused.
-#[derive(Clone, Copy)]
+#[derive(Clone, Copy, Debug, PartialEq, Eq)]
 pub enum TableFault {
     // It has no record, or more than the numbers reach.
     Size,
@@ -16,20 +16,20 @@ pub enum TableFault {
 }
 
 // The part that lost a call, and how many parts (chip, cutter, driver) its answer came up through, modulo 2^64.
-#[derive(Clone, Copy)]
+#[derive(Clone, Copy, Debug, PartialEq, Eq)]
 pub enum Loss {
     Network { passed: u64 },
     Cutter { passed: u64 },
 }
 
 // Why a call of a scan transport is refused.
-#[derive(Clone, Copy)]
+#[derive(Clone, Copy, Debug, PartialEq, Eq)]
 pub enum ScanFault {
     Lost(Loss),
     WrongPhase,
 }
 
-#[derive(Clone, Copy)]
+#[derive(Clone, Copy, Debug, PartialEq, Eq)]
 pub enum Refusal {
     Table(TableFault),
     // The input ends inside a command.
@@ -53,7 +53,7 @@ pub enum Refusal {
 }
 
 // The value that a refusal carries beside its number.
-#[derive(Clone, Copy)]
+#[derive(Clone, Copy, Debug, PartialEq, Eq)]
 pub enum Detail {
     // The highest number whose record breaks a rule.
     Record { number: usize },
@@ -62,6 +62,7 @@ pub enum Detail {
     LostBy(Loss),
 }
 
+// Written out, since clauses read `from_gives`, which a derive would not have.
 impl From<TableFault> for Refusal {
     ghost from_gives = { λ f r. r ≡ Table f };
 
@@ -101,7 +102,7 @@ impl ScanFault {
 }
 
 impl Refusal {
-    // The number by which documents and the program's `E` line know the refusal.
+    // The number by which documents and the program's `E` line know the refusal; no code goes by it.
     pub fn number(self) -> u8
         ensures { result ≡ refusal_number self }
     {

@@ -2,17 +2,17 @@
 // `measure` promises the size of every part, for every table that passes its test.
 #![tactic(auto)]
 
-ghost use Rattle.std.specs.Prelude.{◌≡◌, ℕ, ◌+◌, ◌-◌, ◌*◌, ◌^◌, ◌<◌, ◌≤◌, Bool, true, false, not, ◌&&◌, length, if◌then◌else◌};
+ghost use Rattle.std.specs.Prelude.{◌≡◌, ℕ, ◌+◌, ◌-◌, ◌*◌, ◌^◌, ◌<◌, ◌≤◌, Bool, true, false, not, ◌&&◌, length, if◌then◌else◌, is_some, List, [], ◌∷◌, ◌++◌};
 ghost use Rattle.refusal.specs.Checks.{answered};
 ghost use Rattle.table.specs.Rules.{table_fault};
 ghost use Rattle.reply.specs.Sizes.{total, in_bytes, chosen_at, sent_at, kept_at, listed_at, group_size};
-ghost use Rattle.reply.specs.Numbers.{has_room, with_number};
+ghost use Rattle.reply.specs.Numbers.{has_room, with_number, with_numbers, listed};
 
 use refusal::TableFault;
 use table::{Record, check_table, counts_excluded};
 
 // The chosen instruments' count, and the bytes of a group's data, of its reply's parts and of the whole reply.
-#[derive(Clone, Copy)]
+#[derive(Clone, Copy, Debug, PartialEq, Eq)]
 pub struct GroupSize {
     pub chosen: usize,
     pub sent: usize,
@@ -22,7 +22,7 @@ pub struct GroupSize {
 }
 
 // Over the records so far.
-#[derive(Clone, Copy)]
+#[derive(Clone, Copy, Default)]
 struct Counts {
     chosen: usize,
     sent_bits: usize,
@@ -33,7 +33,7 @@ struct Counts {
 fn bits_if(counts: bool, length: u16) -> usize
     ensures { result ≡ (if counts then length else 0) }
 {
-    if counts { length as usize } else { 0 }
+    if counts { usize::from(length) } else { 0 }
 }
 
 // What one record adds.
@@ -60,23 +60,15 @@ fn count_choice(records: &[Record]) -> Counts
     ensures listed { result.listed ≡ total (listed_at records.now) (length records.now) }
     ensures bound { (result.sent_bits < 2 ^ 31) × (result.kept_bits < 2 ^ 31) × (result.listed ≤ 16382) }
 {
-    let mut chosen = 0;
-    let mut sent_bits = 0;
-    let mut kept_bits = 0;
-    let mut listed = 0;
+    let mut sum = Counts::default();
     for (i, record) in records.iter().enumerate() {
         let one = counts_of(*record, counts_excluded(records, i + 1));
-        chosen += one.chosen;
-        sent_bits += one.sent_bits;
-        kept_bits += one.kept_bits;
-        listed += one.listed;
+        sum.chosen += one.chosen;
+        sum.sent_bits += one.sent_bits;
+        sum.kept_bits += one.kept_bits;
+        sum.listed += one.listed;
     }
-    Counts {
-        chosen,
-        sent_bits,
-        kept_bits,
-        listed,
-    }
+    sum
 }
 
 // Tests the table, then measures the group that its marks choose.
@@ -85,37 +77,42 @@ pub fn measure(records: &[Record]) -> Result<GroupSize, TableFault>
 {
     check_table(records)?;
     let counts = count_choice(records);
-    let body = (counts.kept_bits + 7) / 8;
+    let body = counts.kept_bits.div_ceil(8);
     let list = 2 * counts.listed;
     Ok(GroupSize {
         chosen: counts.chosen,
-        sent: (counts.sent_bits + 7) / 8,
+        sent: counts.sent_bits.div_ceil(8),
         body,
         list,
         reply: body + list + 2,
     })
 }
 
-// Puts a number into a reply; false, and nothing is put, where it has no room or no form.
-pub fn put_number(reply: &mut [u8], at: usize, number: usize) -> bool
-    ensures test { result ≡ has_room reply.old at number }
+// Puts a number into a reply; None, and nothing is put, where it has no room or no form.
+pub fn put_number(reply: &mut [u8], at: usize, number: usize) -> Option<()>
+    ensures test { is_some result ≡ has_room reply.old at number }
     ensures after { reply.new ≡ with_number reply.old at number }
 {
-    if at >= reply.len() || reply.len() - at < 2 || number > 0xFFFF {
-        return false;
+    let [high, low] = u16::try_from(number).ok()?.to_be_bytes();
+    // Indices after a test: what a `get_mut` leaves of the slice no answer can cite.
+    if at >= reply.len() || reply.len() - at < 2 {
+        return None;
     }
-    reply[at] = (number / 256) as u8;
-    reply[at + 1] = (number % 256) as u8;
-    true
+    reply[at] = high;
+    reply[at + 1] = low;
+    Some(())
 }
 
 // Puts what follows the body: each chosen excluded number, the highest first, and the trailer, which says how many bytes
 // before it that list starts.
-pub fn put_list(reply: &mut [u8], records: &[Record], size: GroupSize) {
+pub fn put_list(reply: &mut [u8], records: &[Record], size: GroupSize)
+    ensures { reply.new ≡ with_numbers reply.old size.body (listed records.now (length records.now) ++ size.list ∷ []) }
+{
+    // Goes on only where a number is put, so nothing counts it.
     let mut at = size.body;
-    for number in (1..=records.len()).rev() {
-        if records[number - 1].chosen && counts_excluded(records, number) {
-            let _ = put_number(reply, at, number);
+    for (i, record) in records.iter().enumerate().rev() {
+        if record.chosen && counts_excluded(records, i + 1) {
+            let _ = put_number(reply, at, i + 1);
             at = at.saturating_add(2);
         }
     }

@@ -17,7 +17,8 @@ use refusal::ScanFault;
 pub trait Scan {
     ghost network: { Self → Network };
 
-    // A state that making the transport and its calls can give. A reset that went through gives one from any state.
+    // A state that making the transport and its calls can give. A reset that went through gives one from any state, so it is no
+    // invariant of the type, and each call names it.
     ghost valid: { Self → Type 0 };
 
     // Which losses the transport can answer, so that whoever calls it can only hand on what it was given.

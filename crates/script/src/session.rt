@@ -7,6 +7,7 @@ use host::{Group, HostFault};
 use pdl::{Statement, next_statement, number_of, skip_blanks};
 use refusal::Refusal;
 use std::alloc::{AllocError, Global};
+use std::mem;
 
 // A text has at most this many bytes.
 pub const MOST_TEXT: usize = 4_096;
@@ -18,44 +19,38 @@ struct Session {
     lines: Vec<Line>,
 }
 
-// The bits of binary digits.
-fn bits_of(heap: Global, digits: &[u8]) -> Result<Vec<bool>, HostFault> {
-    let mut bits = Vec::new(heap);
-    for digit in digits {
-        bits.push(*digit == b'1')?;
-    }
-    Ok(bits)
+// The bits of binary digits. (The tests have one that skips blanks.)
+fn bits_of(heap: Global, digits: &[u8]) -> Result<Vec<bool>, AllocError> {
+    digits.iter().map(|digit| *digit == b'1').collect(heap)
 }
 
-// The number that digits name, or 0, which names no instrument either, where it is too large to be held.
-fn number_named(digits: &[u8]) -> usize {
-    number_of(digits).unwrap_or(0)
+// The number that digits name. One that is too large to be held names no instrument.
+fn number_named(digits: &[u8]) -> Result<usize, Refusal> {
+    number_of(digits).ok_or(Refusal::NoInstrument)
 }
 
 impl Session {
     // Sends the group, and begins another.
     fn apply(&mut self, heap: Global) -> Result<(), HostFault> {
-        let group = std::mem::replace(&mut self.group, Group::new(heap));
-        match group.apply(heap) {
-            Ok(sent) => {
-                let reply = self.die.reply_to(heap, sent.command.as_slice())?;
-                self.lines.push(Line::Command(sent.command))?;
-                self.lines.push(Line::Reply(reply))?;
-                sent.pending.write_off();
-                Ok(())
-            }
-            Err(unsent) => Err(unsent.fault),
-        }
+        let group = mem::replace(&mut self.group, Group::new(heap));
+        let sent = group.apply(heap).map_err(|unsent| unsent.fault)?;
+        let reply = self.die.reply_to(heap, sent.command.as_slice())?;
+        self.lines.push(Line::Command(sent.command))?;
+        self.lines.push(Line::Reply(reply))?;
+        sent.pending.write_off();
+        Ok(())
     }
 
+    // A statement is data, and is taken apart here alone.
     fn carry_out(&mut self, heap: Global, statement: Statement) -> Result<(), HostFault> {
         match statement {
             Statement::Write { number, digits } => {
+                let number = number_named(number)?;
                 let bits = bits_of(heap, digits)?;
                 self.group
-                    .write(self.die.records(), number_named(number), bits.as_slice())
+                    .write(self.die.records(), number, bits.as_slice())
             }
-            Statement::Get { number } => self.group.get(self.die.records(), number_named(number)),
+            Statement::Get { number } => self.group.get(self.die.records(), number_named(number)?),
             Statement::Apply => self.apply(heap),
         }
     }
@@ -75,18 +70,15 @@ impl Session {
     fn run(&mut self, heap: Global, text: &[u8]) -> Result<(), AllocError> {
         let mut rest = text;
         loop {
-            let start = text.len().saturating_sub(skip_blanks(rest).len());
             match self.step(heap, rest) {
                 Ok(Some(after)) => rest = after,
                 Ok(None) => return Ok(()),
                 Err(HostFault::Refused(refusal)) => {
-                    self.lines.push(Line::Refused {
-                        number: refusal.number(),
-                        at: start,
-                    })?;
+                    let at = text.len() - skip_blanks(rest).len();
+                    self.lines.push(Line::Refused { refusal, at })?;
                     return Ok(());
                 }
-                Err(HostFault::Memory) => return Err(AllocError),
+                Err(HostFault::Memory(error)) => return Err(error),
             }
         }
     }
@@ -94,20 +86,18 @@ impl Session {
 
 // The lines of a text. Want of memory is the only error.
 pub fn run_text(heap: Global, text: &[u8]) -> Result<Vec<Line>, AllocError> {
-    let mut lines = Vec::new(heap);
-    if text.len() > MOST_TEXT {
-        let needed = text.len();
-        let number = Refusal::TooSmall { needed }.number();
-        lines.push(Line::Refused { number, at: 0 })?;
-        return Ok(lines);
+    let needed = text.len();
+    if needed > MOST_TEXT {
+        let refusal = Refusal::TooSmall { needed };
+        return Ok(vec![in heap; Line::Refused { refusal, at: 0 }]?);
     }
-    let Ok(die) = Die::new(heap) else {
-        return Err(AllocError);
-    };
+    // Where no die can be made, memory is wanting: `Die::new` promises that. A `match` over all faults of a network would have
+    // arms that never come, and an `AllocError` has one value.
+    let die = Die::new(heap).map_err(|_| AllocError)?;
     let mut session = Session {
         die,
         group: Group::new(heap),
-        lines,
+        lines: Vec::new(heap),
     };
     session.run(heap, text)?;
     Ok(session.lines)

@@ -70,18 +70,18 @@ module _ (p : Plan) (pass : ℕ) (row : List Bool) (r at k : ℕ) where
   s = shape_at (table_of p) (suc k)
 
   -- a SIB that is on the path, and one that is not
-  strung_on : leb (shape_at (table_of p) (suc k)).depth r ≡ true
+  pub strung_on : leb (shape_at (table_of p) (suc k)).depth r ≡ true
       → strung p pass row r at (suc k) ≡ part s (aim_at p pass (suc k)) (open_at p pass (suc k)) o ++ strung p pass row (reach_after r s (open_at p pass (suc k))) (at + sent_to (table_of p) (suc k)) k
   strung_on e = rw e
 
-  strung_off : leb (shape_at (table_of p) (suc k)).depth r ≡ false → strung p pass row r at (suc k) ≡ strung p pass row r (at + sent_to (table_of p) (suc k)) k
+  pub strung_off : leb (shape_at (table_of p) (suc k)).depth r ≡ false → strung p pass row r at (suc k) ≡ strung p pass row r (at + sent_to (table_of p) (suc k)) k
   strung_off e = rw e
 
-  sieved_on : leb (shape_at (table_of p) (suc k)).depth r ≡ true
+  pub sieved_on : leb (shape_at (table_of p) (suc k)).depth r ≡ true
       → sieved p pass row r at (suc k) ≡ mask s (open_at p pass (suc k)) o ++ sieved p pass row (reach_after r s (open_at p pass (suc k))) (at + sent_to (table_of p) (suc k)) k
   sieved_on e = rw e
 
-  sieved_off : leb (shape_at (table_of p) (suc k)).depth r ≡ false → sieved p pass row r at (suc k) ≡ sieved p pass row r (at + sent_to (table_of p) (suc k)) k
+  pub sieved_off : leb (shape_at (table_of p) (suc k)).depth r ≡ false → sieved p pass row r at (suc k) ≡ sieved p pass row r (at + sent_to (table_of p) (suc k)) k
   sieved_off e = rw e
 
 -- A visit shifts what its number's part of the string has, and keeps what its part of the sieve marks.
@@ -116,7 +116,7 @@ module _ (p : Plan) (pass : ℕ) (row : List Bool) (at n : ℕ) where
       ap₂ (λ (b : Bool) (o : Order). cond b (replicate (shape_at (table_of p) n).cells (reads o)) []) (open_asked ∙ h.0) (ordered true (and_parts (open_at p pass n) _ h.0).1 h.1)
       ∙ ap (λ (k : ℕ). replicate k false) (sym h.2)
 
-  cells_short : (v : Row) → RowIs p pass n v → (numbered (table_of p) n).length ≤ 256 → cells_of v ≤ 256
+  pub cells_short : (v : Row) → RowIs p pass n v → (numbered (table_of p) n).length ≤ 256 → cells_of v ≤ 256
   cells_short Hidden h l = omega arith
   cells_short (Read cells) h l = omega (arith, h.2)
   cells_short (Write cells) h l = omega (arith, h.2)
@@ -129,40 +129,40 @@ trues_none : (k : ℕ) → trues (replicate k false) ≡ 0
 trues_none zero = refl
 trues_none (suc k) = trues_none k
 
-trues_append : (ms ns : List Bool) → trues (ms ++ ns) ≡ trues ms + trues ns
+pub trues_append : (ms ns : List Bool) → trues (ms ++ ns) ≡ trues ms + trues ns
 trues_append [] ns = sym (zero-add (trues ns))
 trues_append (true ∷ ms) ns = let i = trues_append ms ns in omega arith
 trues_append (false ∷ ms) ns = trues_append ms ns
 
-trues_row : (v : Row) → trues (row_mask v) ≡ kept_cells v
+pub trues_row : (v : Row) → trues (row_mask v) ≡ kept_cells v
 trues_row Hidden = refl
 trues_row (Read cells) = trues_all cells
 trues_row (Write cells) = trues_none cells
 
-kept_short : (v : Row) → kept_cells v ≤ cells_of v
+pub kept_short : (v : Row) → kept_cells v ≤ cells_of v
 kept_short Hidden = omega arith
 kept_short (Read cells) = omega arith
 kept_short (Write cells) = omega arith
 
-length_row_mask : (v : Row) (row : List Bool) (at : ℕ) → length (row_mask v) ≡ length (row_bits_of v row at)
+pub length_row_mask : (v : Row) (row : List Bool) (at : ℕ) → length (row_mask v) ≡ length (row_bits_of v row at)
 length_row_mask Hidden row at = refl
 length_row_mask (Read cells) row at = refl
 length_row_mask (Write cells) row at = length-replicate cells false ∙ sym (length_bits_from row at cells)
 
-length_sift : (ms bs : List Bool) → length ms ≡ length bs → length (sift ms bs) ≡ trues ms
+pub length_sift : (ms bs : List Bool) → length ms ≡ length bs → length (sift ms bs) ≡ trues ms
 length_sift [] [] e = refl
 length_sift [] (b ∷ bs) e = refl
 length_sift (m ∷ ms) [] e = absurd (omega (arith, e))
 length_sift (true ∷ ms) (b ∷ bs) e = ap suc (length_sift ms bs (omega (arith, e)))
 length_sift (false ∷ ms) (b ∷ bs) e = length_sift ms bs (omega (arith, e))
 
-laid_append : (row : List Bool) (at : ℕ) (xs ys : List Bool) → laid row at (xs ++ ys) ≡ laid (laid row at xs) (at + length xs) ys
+pub laid_append : (row : List Bool) (at : ℕ) (xs ys : List Bool) → laid row at (xs ++ ys) ≡ laid (laid row at xs) (at + length xs) ys
 laid_append row at [] ys = ap (λ (j : ℕ). laid row j ys) (sym (add-zero at))
 laid_append row at (x ∷ xs) ys =
     let e : suc at + length xs ≡ at + suc (length xs) = omega arith in
     laid_append (set row at x) (suc at) xs ys ∙ ap (λ (j : ℕ). laid (laid (set row at x) (suc at) xs) j ys) e
 
-stays_laid : (end at : ℕ) (row₀ row bs : List Bool) → at + length bs ≤ end → StaysFrom end row₀ row → StaysFrom end row₀ (laid row at bs)
+pub stays_laid : (end at : ℕ) (row₀ row bs : List Bool) → at + length bs ≤ end → StaysFrom end row₀ row → StaysFrom end row₀ (laid row at bs)
 stays_laid end at row₀ row [] h s = s
 stays_laid end at row₀ row (b ∷ bs) h s = stays_laid end (suc at) row₀ (set row at b) bs (omega arith) (stays_set end at row₀ row b (omega arith) s)
 

@@ -1,5 +1,7 @@
-// Passes and runs over any scan transport.
-// A run wants some instruments: it opens the way to them one level at a time, and then shifts through them.
+// The shifts of a pass: a SIB's own bit and, where its row is on the path, the row.
+// They promise what goes into the network, what is kept of what comes out, and what a lost call leaves (specs/Feeding.antt).
 #![tactic(auto)]
 
 mod shifts;
+
+pub use shifts::shift_sib;

@@ -1,4 +1,5 @@
 // Single bits, rows and SIBs of a pass.
+// A row of bits and the place in it are two parameters: the place goes on by the table's marks, also where nothing is shifted.
 ghost use Rattle.std.specs.Prelude.{◌≡◌, ℕ, ◌+◌, Bool, true, false, replicate};
 ghost use Rattle.bits.specs.Order.{row_bits};
 ghost use Rattle.bits.specs.Place.{flat};
@@ -11,7 +12,8 @@ use plan::{Row, Visit};
 use refusal::ScanFault;
 use scan::Scan;
 
-// Shifts the next bits of `sent` into an instrument.
+// Shifts the next bits of `sent` into an instrument. (`_k` counts the turns for the proof. The place goes on by itself, with no
+// division; so too below.)
 fn shift_write<S: Scan>(
     scan: &mut S,
     cells: u16,
@@ -23,14 +25,14 @@ fn shift_write<S: Scan>(
 {
     let mut at = from;
     for _k in 0..cells {
-        let bit = take_bit(sent, at.byte, at.place).unwrap_or(false);
+        let bit = take_bit(sent, at).unwrap_or(false);
         let _ = scan.shift(bit)?;
         at = at.next();
     }
     Ok(())
 }
 
-// Shifts ones into an instrument, and what comes out into `body`.
+// Shifts ones into an instrument, and what comes out into `body`. No twin of `shift_write`: bits go the other way.
 fn shift_read<S: Scan>(
     scan: &mut S,
     cells: u16,
@@ -43,14 +45,14 @@ fn shift_read<S: Scan>(
     let mut at = to;
     for _k in 0..cells {
         let bit = scan.shift(true)?;
-        let _ = store_bit(body, at.byte, at.place, bit);
+        let _ = store_bit(body, at, bit);
         at = at.next();
     }
     Ok(())
 }
 
 // Shifts a SIB's own bit and, where its row is on the path, the row; answers where the next kept bit goes.
-pub(crate) fn shift_sib<S: Scan>(
+pub fn shift_sib<S: Scan>(
     scan: &mut S,
     visit: Visit,
     sent: &[u8],

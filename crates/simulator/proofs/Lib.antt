@@ -1,8 +1,8 @@
+pub mod Standing
 pub mod Rows
 pub mod Walks
-pub mod Midway
+pub mod Changes
 pub mod Places
 pub mod Gathering
-pub mod Closing
 pub mod Cells
 pub mod Newness

@@ -1,11 +1,12 @@
 -- The stuck cells of a path by their places, and one site's.
-use Rattle.std.proofs.Common.{◌≡◌, ℕ, zero, suc, ◌+◌, ◌<◌, ◌≤◌, Bool, true, false, cond, List, [], ◌∷◌, ◌++◌, length, get_or, drop, set, replicate, Some, None, vec_items, Option, sym, refl, ap, ◌∙◌, arith}
-use Rattle.std.proofs.lemmas.List.{append_assoc, length-replicate, length_push, set_at, set_past, at_drop_more, at_drop_all}
-use Rattle.scan.specs.Network.{Flaw, sound, stuck, shown, live}
+use Rattle.std.proofs.Common.{◌≡◌, ℕ, zero, suc, ◌+◌, ◌<◌, ◌≤◌, Bool, true, false, cond, List, [], ◌∷◌, ◌++◌, length, set, replicate, Some, None, Option, inl, inr, sym, refl, ap, ◌∙◌, arith}
+use Rattle.std.proofs.lemmas.List.{append_assoc, length-replicate, length_push, set_at, set_past}
+use Rattle.std.specs.Prelude.{nat_lt, ◌&&◌, ◌⊎◌}
+use Rattle.std.proofs.lemmas.Bool.{cases_lt, cond_below, cond_above}
+use Rattle.scan.specs.Network.{Flaw, sound, stuck, shown}
 use Rattle.simulator.specs.declared.site.Stuck.{Stuck}
 use Rattle.simulator.specs.declared.site.StuckPlace.{StuckPlace}
-use Rattle.simulator.specs.declared.site.Site.{Site}
-use Rattle.simulator.specs.Meaning.{row_flaws, meaning, stuck_places, stuck_at, forced}
+use Rattle.simulator.specs.Meaning.{row_flaws, stuck_places, forced}
 
 abbrev pub stuck_place : ℕ → Bool → StuckPlace
 stuck_place n b = record { place = n; bit = b }
@@ -47,41 +48,17 @@ stuck_row n (suc k) (suc c) p b h e = stuck_row (suc n) k c p b (omega arith) (o
 past_row : (n k c : ℕ) (b : Bool) → k ≤ c → stuck_places n (set (replicate k sound) c (stuck b)) ≡ []
 past_row n k c b h = ap (stuck_places n) (set_past (replicate k sound) c (stuck b) (simp length-replicate h)) ∙ sound_row n k
 
-part_none : (n : ℕ) (l : Bool) (fs : List Flaw) → stuck_places n fs ≡ [] → stuck_places n (cond l fs []) ≡ []
-part_none n true fs e = e
-part_none n false fs e = refl
+-- what is stuck of a row that is on the path where `there`, of k cells, after a SIB's own cell at place n
+abbrev pub stuck_by : ℕ → ℕ → Bool → Option Stuck → List StuckPlace
+stuck_by n k there None = []
+stuck_by n k there (Some f) = cond (there && nat_lt f.cell k) (stuck_place (n + 1 + f.cell) f.bit ∷ []) []
 
-pub stuck_none : (n : ℕ) (s : Site) → s.fault ≡ None → stuck_at n s ≡ []
-stuck_none n s e = rw e (part_none (suc n) (live (meaning s)) _ (sound_row (suc n) (length (vec_items s.row))))
+in_row : (n k : ℕ) (f : Stuck) → (f.cell < k) ⊎ (k ≤ f.cell) → stuck_places (suc n) (row_flaws k (Some f)) ≡ stuck_by n k true (Some f)
+in_row n k f (inl h) = stuck_row (suc n) k f.cell (n + 1 + f.cell) f.bit h (omega arith) ∙ cond_below f.cell k _ _ h
+in_row n k f (inr h) = past_row (suc n) k f.cell f.bit h ∙ cond_above f.cell k _ _ _ h refl
 
-pub stuck_shut : (n : ℕ) (s : Site) → live (meaning s) ≡ false → stuck_at n s ≡ []
-stuck_shut n s e = rw e
-
-pub stuck_past : (n : ℕ) (s : Site) (f : Stuck) → s.fault ≡ Some f → length (vec_items s.row) ≤ f.cell → stuck_at n s ≡ []
-stuck_past n s f e h = rw e (part_none (suc n) (live (meaning s)) _ (past_row (suc n) (length (vec_items s.row)) f.cell f.bit h))
-
-pub stuck_live : (n : ℕ) (s : Site) (f : Stuck) → s.fault ≡ Some f → live (meaning s) ≡ true → f.cell < length (vec_items s.row)
-    → stuck_at n s ≡ stuck_place (n + 1 + f.cell) f.bit ∷ []
-stuck_live n s f e l h = rw (e, l) (stuck_row (suc n) (length (vec_items s.row)) f.cell (n + 1 + f.cell) f.bit h (omega arith))
-
-row_at_most_one : (n k c : ℕ) (b : Bool) → length (stuck_places n (set (replicate k sound) c (stuck b))) ≤ 1
-row_at_most_one n zero c b = omega arith
-row_at_most_one n (suc k) zero b = rw (sound_row (suc n) k) (omega arith)
-row_at_most_one n (suc k) (suc c) b = row_at_most_one (suc n) k c b
-
-part_at_most_one : (n k : ℕ) (l : Bool) (o : Option Stuck) → length (stuck_places n (cond l (row_flaws k o) [])) ≤ 1
-part_at_most_one n k false o = omega arith
-part_at_most_one n k true None = rw (sound_row n k) (omega arith)
-part_at_most_one n k true (Some f) = row_at_most_one n k f.cell f.bit
-
-pub length_stuck_places : (n : ℕ) (s : Site) → length (stuck_at n s) ≤ 1
-length_stuck_places n s = part_at_most_one (suc n) (length (vec_items s.row)) (live (meaning s)) s.fault
-
--- one stuck cell after the other is forced; qs is the list as the loop has it
-pub force_more : (xs xs' : List Bool) (ps qs : List StuckPlace) (i : ℕ) (d : StuckPlace) → qs ≡ ps → i < length qs
-    → xs' ≡ set xs (get_or qs i d).place (get_or qs i d).bit → forced xs' (drop (i + 1) ps) ≡ forced xs (drop i ps)
-force_more xs xs' ps qs i d same h e =
-    rw (← same) (ap (λ (ys : List Bool). forced ys (drop (i + 1) qs)) e ∙ sym (at_drop_more (forced xs) qs i d h))
-
-pub force_all : (xs : List Bool) (ps : List StuckPlace) (i : ℕ) → length ps ≤ i → forced xs (drop i ps) ≡ xs
-force_all xs ps i h = at_drop_all (forced xs) ps i h
+pub stuck_part : (n k : ℕ) (there : Bool) (o : Option Stuck) → stuck_places (suc n) (cond there (row_flaws k o) []) ≡ stuck_by n k there o
+stuck_part n k true None = sound_row (suc n) k
+stuck_part n k true (Some f) = in_row n k f (cases_lt f.cell k)
+stuck_part n k false None = refl
+stuck_part n k false (Some f) = refl

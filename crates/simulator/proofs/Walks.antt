@@ -3,7 +3,7 @@ use Rattle.std.proofs.Common.{◌≡◌, ℕ, ◌+◌, ◌<◌, Bool, true, fals
 use Rattle.std.proofs.lemmas.List.{drop_more}
 use Rattle.scan.specs.Network.{Flaw, Site, build_of, latch_of}
 use Rattle.scan.specs.Path.{marks, reach_after, pick, offered, flaws_of}
-use Rattle.scan.specs.Moves.{spread}
+use Rattle.scan.specs.Moves.{fill, each, updated}
 
 abbrev pub marks_from : ℕ → List Site → List Bool
 marks_from r ms = marks r (map build_of ms) (map latch_of ms)
@@ -14,8 +14,11 @@ offered_from r ms = pick (marks_from r ms) (map offered ms)
 abbrev pub flaws_from : ℕ → List Site → List Flaw
 flaws_from r ms = pick (marks_from r ms) (map flaws_of ms)
 
-abbrev pub dealt_from : (Site → List Bool → Site) → ℕ → List Site → List Bool → List Site
-dealt_from f r ms bs = spread f (marks_from r ms) ms bs
+abbrev pub filled_from : ℕ → List Bool → List Site → List Site
+filled_from r bs ms = fill (marks_from r ms) ms bs
+
+abbrev pub updated_from : ℕ → List Site → List Site
+updated_from r ms = each updated (marks_from r ms) ms
 
 -- the item that a loop reads is the first of those left; ys is the list as the loop has it
 pub drop_item : {X : Type 0} (xs ys : List X) (i : ℕ) (x : X) → ys ≡ xs → i < length ys → x ≡ get_or ys i x → drop i xs ≡ x ∷ drop (i + 1) xs
@@ -30,17 +33,9 @@ pub flaws_on : (r : ℕ) (m : Site) (ms : List Site) → leb m.build.depth r ≡
     → flaws_from r (m ∷ ms) ≡ flaws_of m ++ flaws_from (reach_after r m.build m.latch) ms
 flaws_on r m ms e = rw e
 
-pub dealt_on : (f : Site → List Bool → Site) (r : ℕ) (m : Site) (ms : List Site) (bs : List Bool) → leb m.build.depth r ≡ true
-    → dealt_from f r (m ∷ ms) bs ≡ f m bs ∷ dealt_from f (reach_after r m.build m.latch) ms (drop (length (flaws_of m)) bs)
-dealt_on f r m ms bs e = rw e
-
 -- a SIB off the path
 pub offered_off : (r : ℕ) (m : Site) (ms : List Site) → leb m.build.depth r ≡ false → offered_from r (m ∷ ms) ≡ offered_from r ms
 offered_off r m ms e = rw e
 
 pub flaws_off : (r : ℕ) (m : Site) (ms : List Site) → leb m.build.depth r ≡ false → flaws_from r (m ∷ ms) ≡ flaws_from r ms
 flaws_off r m ms e = rw e
-
-pub dealt_off : (f : Site → List Bool → Site) (r : ℕ) (m : Site) (ms : List Site) (bs : List Bool) → leb m.build.depth r ≡ false
-    → dealt_from f r (m ∷ ms) bs ≡ m ∷ dealt_from f r ms bs
-dealt_off f r m ms bs e = rw e

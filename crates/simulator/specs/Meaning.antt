@@ -1,11 +1,11 @@
 -- The network that a simulator stands for.
-use Rattle.std.specs.Prelude.{ℕ, suc, ◌+◌, Bool, cond, not, List, [], ◌∷◌, map, length, replicate, Some, None, vec_items, Option, slice_set}
+use Rattle.std.specs.Prelude.{◌≡◌, ℕ, suc, ◌+◌, Bool, not, List, [], ◌∷◌, map, length, replicate, Some, None, vec_items, vec_capacity, Option, slice_set}
+use Rattle.std.specs.VecDeque.{deque_capacity}
 use Rattle.table.specs.Rules.{is_doorway}
 use Rattle.scan.specs.Network as model
 use Rattle.scan.specs.Network.{Flaw, sound, stuck}
 use Rattle.scan.specs.Path.{flaws_of, on, path_flaws}
-use Rattle.scan.specs.Moves.{put, updated, fill}
-use Rattle.simulator.specs.Round.{round}
+use Rattle.scan.specs.Moves.{fill}
 use Rattle.simulator.specs.declared.site.Offer.{Offer}
 use Rattle.simulator.specs.declared.site.Offer.TheVariants.{Keeps, Inverts}
 use Rattle.simulator.specs.declared.site.Phase.{Phase}
@@ -13,6 +13,7 @@ use Rattle.simulator.specs.declared.site.Phase.TheVariants.{Rest, Scan, Broken}
 use Rattle.simulator.specs.declared.site.Stuck.{Stuck}
 use Rattle.simulator.specs.declared.site.StuckPlace.{StuckPlace}
 use Rattle.simulator.specs.declared.site.Site.{Site}
+use Rattle.simulator.specs.declared.path.Path.{Path}
 
 -- what an instrument offers of the bits that it holds
 abbrev pub offer_of : Offer → List Bool → List Bool
@@ -46,14 +47,18 @@ meaning s = record {
 abbrev pub meanings : List Site → List model.Site
 meanings ss = map meaning ss
 
--- what a site on the path becomes by the bits dealt out to it: its cells take them and, where they are latched, it is updated
-abbrev pub dealt : Bool → model.Site → List Bool → model.Site
-dealt latches s bs = cond latches (updated (put s bs)) (put s bs)
-
 -- the cells of all sites, on the path or not
 abbrev pub all_cells : List Site → ℕ
 all_cells [] = 0
 all_cells (s ∷ ss) = suc (length (vec_items s.row)) + all_cells ss
+
+-- as many sites, with as many cells
+abbrev pub SameSize : List Site → List Site → Type 0
+SameSize ss ts = (length ts ≡ length ss) × (all_cells ts ≡ all_cells ss)
+
+-- a path with room for as many cells
+abbrev pub SameRoom : Path → Path → Type 0
+SameRoom p q = (deque_capacity q.bits ≡ deque_capacity p.bits) × (vec_capacity q.stuck ≡ vec_capacity p.stuck)
 
 -- the stuck cells of a path whose first cell has the place n
 abbrev pub stuck_places : ℕ → List Flaw → List StuckPlace
@@ -82,17 +87,16 @@ phase_of Rest = model.rest
 phase_of Scan = model.scan
 phase_of Broken = model.broken
 
--- in scan the path's cells are those of the ring, given here in order
+-- in scan the cells on the path are those of the simulator's path
 abbrev pub sites_now : Phase → List model.Site → List Bool → List model.Site
 sites_now Rest ms bits = ms
 sites_now Scan ms bits = fill (on ms) ms bits
 sites_now Broken ms bits = ms
 
-abbrev pub network_of : List Site → List Bool → ℕ → Phase → ℕ → model.Network
-network_of ss bits head phase lost =
-    record { sites = sites_now phase (meanings ss) (round bits head); phase = phase_of phase; lost = lost }
+abbrev pub network_of : List Site → List Bool → Phase → ℕ → model.Network
+network_of ss bits phase lost = record { sites = sites_now phase (meanings ss) bits; phase = phase_of phase; lost = lost }
 
--- in scan the ring has as many bits as the path cells, and the list has the path's stuck cells
+-- in scan there are as many bits as the path has cells, and the list has the path's stuck cells
 abbrev pub scan_length : Phase → List Site → ℕ → ℕ
 scan_length Rest ss n = n
 scan_length Scan ss n = length (path_flaws (meanings ss))

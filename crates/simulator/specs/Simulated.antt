@@ -7,14 +7,15 @@ use Rattle.refusal.specs.declared.ScanFault.TheVariants.{Lost, WrongPhase}
 use Rattle.scan.specs.Network as model
 use Rattle.scan.specs.Network.{shown}
 use Rattle.scan.specs.Path.{on, path_offered, path_flaws}
-use Rattle.scan.specs.Moves.{spread, first, moved}
+use Rattle.scan.specs.Moves.{fill, first, moved}
+use Rattle.scan.specs.Calls.{Fails}
+use Rattle.simulator.specs.declared.site.Phase.{Phase}
 use Rattle.simulator.specs.declared.site.Phase.TheVariants.{Rest, Scan, Broken}
 use Rattle.simulator.specs.declared.network.Simulator.{Simulator}
-use Rattle.simulator.specs.Meaning.{meanings, dealt, network_of}
-use Rattle.simulator.specs.Round.{round}
+use Rattle.simulator.specs.Meaning.{meanings, network_of, phase_of}
 
 abbrev pub network : Simulator → model.Network
-network s = network_of (vec_items s.sites) (vec_items s.path.bits) s.path.head s.phase s.lost
+network s = network_of (vec_items s.sites) s.path.bits.items s.phase s.lost
 
 -- Its losses are the network's own, passed by nobody.
 abbrev pub by_network : Loss → Type 0
@@ -32,24 +33,33 @@ pub record LostAll (s : Simulator) (e : ScanFault) (t : Simulator) : Type 0 wher
   pub count : t.lost ≡ (s.lost + 1) % 2 ^ 64
   pub cable : t.cable_out ≡ s.cable_out
 
-pub record Emptied (s : Simulator) (latches : Bool) (t : Simulator) : Type 0 where
-  pub sites : meanings (vec_items t.sites) ≡ spread (dealt latches) (on (meanings (vec_items s.sites))) (meanings (vec_items s.sites)) (round (vec_items s.path.bits) s.path.head)
+-- A call begins where the cable is in, and else is lost.
+abbrev pub Begins : Simulator → Result (Unit {0}) ScanFault → Simulator → Type 0
+Begins s (Ok u) t = (s.cable_out ≡ false) × (t ≡ s)
+Begins s (Err e) t = (s.cable_out ≡ true) × LostAll s e t
+
+-- A call that works in one phase begins in it, and else is refused, or lost.
+abbrev pub BeginsIn : Phase → Simulator → Result (Unit {0}) ScanFault → Simulator → Type 0
+BeginsIn p s (Ok u) t = (s.phase ≡ p) × (t ≡ s)
+BeginsIn p s (Err e) t = Fails by_network (phase_of p) (network s) e (network t)
+
+pub record Emptied (s : Simulator) (t : Simulator) : Type 0 where
+  pub sites : meanings (vec_items t.sites) ≡ fill (on (meanings (vec_items s.sites))) (meanings (vec_items s.sites)) s.path.bits.items
   pub phase : t.phase ≡ Rest
   pub count : t.lost ≡ s.lost
   pub cable : t.cable_out ≡ s.cable_out
 
 pub record Filled (s : Simulator) (t : Simulator) : Type 0 where
   pub sites : t.sites ≡ s.sites
-  pub bits : vec_items t.path.bits ≡ path_offered (meanings (vec_items s.sites))
-  pub head : t.path.head ≡ 0
+  pub bits : t.path.bits.items ≡ path_offered (meanings (vec_items s.sites))
   pub phase : t.phase ≡ Scan
   pub count : t.lost ≡ s.lost
   pub cable : t.cable_out ≡ s.cable_out
 
 pub record Turned (s : Simulator) (bit out : Bool) (t : Simulator) : Type 0 where
   pub sites : t.sites ≡ s.sites
-  pub answer : out ≡ first (shown (path_flaws (meanings (vec_items s.sites))) (round (vec_items s.path.bits) s.path.head)) bit
-  pub bits : round (vec_items t.path.bits) t.path.head ≡ moved (shown (path_flaws (meanings (vec_items s.sites))) (round (vec_items s.path.bits) s.path.head)) bit
+  pub answer : out ≡ first (shown (path_flaws (meanings (vec_items s.sites))) s.path.bits.items) bit
+  pub bits : t.path.bits.items ≡ moved (shown (path_flaws (meanings (vec_items s.sites))) s.path.bits.items) bit
   pub phase : t.phase ≡ Scan
   pub count : t.lost ≡ s.lost
   pub cable : t.cable_out ≡ s.cable_out

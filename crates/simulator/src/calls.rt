@@ -1,16 +1,12 @@
 // The calls of the simulated network.
-ghost use Rattle.std.specs.Prelude.{◌≡◌, ℕ, ◌+◌, ◌%◌, ◌^◌, Bool, true, false, vec_len, vec_capacity};
+ghost use Rattle.std.specs.Prelude.{◌≡◌};
 ghost use Rattle.refusal.specs.declared.Loss.{Loss};
-ghost use Rattle.refusal.specs.declared.Loss.TheVariants.{Network as LostByNetwork};
 ghost use Rattle.scan.specs.Calls.{Resets, Captures, Shifts, Updates, Once};
-ghost use Rattle.scan.specs.Moves.{spread, reset};
-ghost use Rattle.scan.specs.Path.{on, path_offered, path_flaws};
-ghost use Rattle.simulator.specs.Meaning.{meanings, dealt, network_of, forced};
-ghost use Rattle.simulator.specs.Simulated.{network, by_network, Emptied, Filled, Turned, LostAll, is_lost};
-ghost use Rattle.simulator.specs.Round.{round};
-ghost use Rattle.simulator.specs.Standing.{network_fits};
+ghost use Rattle.scan.specs.Moves.{reset};
+ghost use Rattle.simulator.specs.Simulated.{network, by_network, Begins, BeginsIn, Emptied, Filled, Turned, is_lost};
+ghost use Rattle.simulator.specs.NetworkFits.{network_fits};
 
-use crate::dealing::{close_all, deal, force_all, gather};
+use crate::dealing::{close_all, deal, update_all};
 use crate::network::Simulator;
 use crate::site::Phase;
 use refusal::{Loss, ScanFault};
@@ -25,23 +21,39 @@ impl Simulator {
         self.cable_out = out;
     }
 
-    // The cable is out: the call is lost.
-    fn lose(&mut self) -> ScanFault
-        ensures { LostAll self.old result self.new }
+    // Begins a call, which is lost where the cable is out.
+    fn begin(&mut self) -> Result<(), ScanFault>
+        ensures { Begins self.old result self.new }
     {
+        if !self.cable_out {
+            return Ok(());
+        }
         self.lost = self.lost.wrapping_add(1);
         self.phase = Phase::Broken;
-        ScanFault::Lost(Loss::Network { passed: 0 })
+        Err(ScanFault::Lost(Loss::Network { passed: 0 }))
+    }
+
+    // Begins a call that is refused in any phase but one.
+    #[tactic(auto, using(crate::proofs::Standing::lost_call))]
+    fn begin_in(&mut self, phase: Phase) -> Result<(), ScanFault>
+        ensures begins { BeginsIn phase self.old result self.new }
+        ensures lost { is_lost result ≡ self.old.cable_out }
+        ensures cable { self.new.cable_out ≡ self.old.cable_out }
+    {
+        self.begin()?;
+        if self.phase != phase {
+            return Err(ScanFault::WrongPhase);
+        }
+        Ok(())
     }
 
     // Deals the path's bits out again; the network is at rest then.
-    fn empty_path(&mut self, latches: bool)
+    fn empty_path(&mut self)
         requires { self.old.phase ≡ Phase.Scan }
-        ensures { Emptied self.old latches self.new }
+        ensures { Emptied self.old self.new }
     {
         self.phase = Phase::Rest;
-        self.path.straighten();
-        deal(&mut self.sites, self.path.bits.as_slice(), latches);
+        deal(&mut self.sites, self.path.bits.make_contiguous());
     }
 
     // Gathers what the path offers; the network is in scan then.
@@ -49,9 +61,7 @@ impl Simulator {
         requires { self.old.phase ≡ Phase.Rest }
         ensures { Filled self.old self.new }
     {
-        self.path.clear();
-        self.stuck.clear();
-        gather(&self.sites, &mut self.path, &mut self.stuck);
+        self.path.gather(&self.sites);
         self.phase = Phase::Scan;
     }
 
@@ -60,11 +70,11 @@ impl Simulator {
         requires { self.old.phase ≡ Phase.Scan }
         ensures { Turned self.old bit result self.new }
     {
-        force_all(&mut self.path, &self.stuck);
-        self.path.turn(bit)
+        self.path.shift(bit)
     }
 }
 
+// The clauses `lost` and `cable` stand at each call: they speak of its answer, so no field can hold them.
 impl Scan for Simulator {
     ghost network = { network };
 
@@ -74,6 +84,7 @@ impl Scan for Simulator {
 
     ghost fits = { λ s. network_fits s };
 
+    #[tactic(auto, using(crate::proofs::Standing::lost_call))]
     fn reset(&mut self) -> Result<(), ScanFault>
         ensures did { Resets by_network (network self.old) result (network self.new) }
         ensures made { Once result (Unit {0}) }
@@ -81,11 +92,9 @@ impl Scan for Simulator {
         ensures lost { is_lost result ≡ self.old.cable_out }
         ensures cable { self.new.cable_out ≡ self.old.cable_out }
     {
-        if self.cable_out {
-            return Err(self.lose());
-        }
-        if let Phase::Scan = self.phase {
-            self.empty_path(false);
+        self.begin()?;
+        if self.phase == Phase::Scan {
+            self.empty_path();
         }
         close_all(&mut self.sites);
         self.phase = Phase::Rest;
@@ -98,12 +107,7 @@ impl Scan for Simulator {
         ensures lost { is_lost result ≡ self.old.cable_out }
         ensures cable { self.new.cable_out ≡ self.old.cable_out }
     {
-        if self.cable_out {
-            return Err(self.lose());
-        }
-        let Phase::Rest = self.phase else {
-            return Err(ScanFault::WrongPhase);
-        };
+        self.begin_in(Phase::Rest)?;
         self.fill_path();
         Ok(())
     }
@@ -114,12 +118,7 @@ impl Scan for Simulator {
         ensures lost { is_lost result ≡ self.old.cable_out }
         ensures cable { self.new.cable_out ≡ self.old.cable_out }
     {
-        if self.cable_out {
-            return Err(self.lose());
-        }
-        let Phase::Scan = self.phase else {
-            return Err(ScanFault::WrongPhase);
-        };
+        self.begin_in(Phase::Scan)?;
         Ok(self.turn(bit))
     }
 
@@ -129,13 +128,9 @@ impl Scan for Simulator {
         ensures lost { is_lost result ≡ self.old.cable_out }
         ensures cable { self.new.cable_out ≡ self.old.cable_out }
     {
-        if self.cable_out {
-            return Err(self.lose());
-        }
-        let Phase::Scan = self.phase else {
-            return Err(ScanFault::WrongPhase);
-        };
-        self.empty_path(true);
+        self.begin_in(Phase::Scan)?;
+        self.empty_path();
+        update_all(&mut self.sites);
         Ok(())
     }
 }

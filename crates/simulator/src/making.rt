@@ -1,17 +1,17 @@
 // A network is made from a table.
-ghost use Rattle.std.specs.Prelude.{◌≡◌, ℕ, ◌+◌, ◌-◌, ◌*◌, ◌<◌, ◌≤◌, Bool, true, false, List, length, IfOk, vec_len, vec_capacity, MatchResult};
-ghost use Rattle.table.specs.Rules.{blank};
+ghost use Rattle.std.specs.Prelude.{◌≡◌, ◌+◌, ◌-◌, ◌*◌, ◌<◌, ◌≤◌, false, length, IfOk, vec_len, MatchOption};
 ghost use Rattle.simulator.specs.declared.site.NetworkFault.TheVariants.{Table, Memory, Outside};
-ghost use Rattle.simulator.specs.Meaning.{meaning, meanings, all_cells};
+ghost use Rattle.simulator.specs.Meaning.{meaning, meanings};
 ghost use Rattle.simulator.specs.Fresh.{fresh_site, fresh_sites, bits_in, lies_in, InsideBelow, LowestOutside, Makes};
 
 use crate::network::Simulator;
-use crate::ring::Ring;
+use crate::path::Path;
 use crate::site::{NetworkFault, Phase, Setting, Site, Stuck};
 use refusal::TableFault;
 use std::alloc::{AllocError, Global};
 use table::{Record, check_table};
 
+// Written out, since clauses read `from_gives`, which a derive would not have.
 impl From<TableFault> for NetworkFault {
     ghost from_gives = { λ f r. r ≡ Table f };
 
@@ -31,32 +31,36 @@ impl From<AllocError> for NetworkFault {
 fn lies_in(fault: Option<Stuck>, length: u16) -> bool
     ensures { result ≡ lies_in fault length }
 {
-    match fault {
-        Some(stuck) => stuck.cell < length as usize,
-        None => true,
-    }
+    fault.is_none_or(|stuck| stuck.cell < usize::from(length))
 }
 
-// How many bits all instruments have, where every stuck cell lies in its row.
-fn count_bits(records: &[Record], settings: &[Setting]) -> Result<usize, NetworkFault>
-    requires { (length settings.now ≡ length records.now) × (length records.now ≤ 16382) }
-    ensures { MatchResult result (λ n. (n ≡ bits_in records.now) × InsideBelow records.now settings.now (length records.now)) (λ e. (n : ℕ) × (e ≡ Outside n) × LowestOutside records.now settings.now n) }
+// The index of the first record whose stuck cell lies outside its row.
+fn first_outside(records: &[Record], settings: &[Setting]) -> Option<usize>
+    requires { length settings.now ≡ length records.now }
+    ensures { MatchOption result (InsideBelow records.now settings.now (length records.now)) (λ i. LowestOutside records.now settings.now (i + 1)) }
 {
-    let mut bits: usize = 0;
-    for (i, record) in records.iter().enumerate() {
-        if !lies_in(settings[i].fault, record.length) {
-            return Err(NetworkFault::Outside { number: i + 1 });
-        }
-        bits += record.length as usize;
-    }
-    Ok(bits)
+    records
+        .iter()
+        .zip(settings)
+        .position(|(record, setting)| !lies_in(setting.fault, record.length))
+}
+
+// How many bits all instruments have.
+fn count_bits(records: &[Record]) -> usize
+    requires { length records.now ≤ 16382 }
+    ensures { result ≡ bits_in records.now }
+{
+    records
+        .iter()
+        .map(|record| usize::from(record.length))
+        .sum()
 }
 
 fn make_site(heap: Global, sib: Record, setting: Setting, held: &[bool]) -> Result<Site, AllocError>
     requires { length held.now ≡ sib.length }
     ensures { IfOk result (λ s. (meaning s ≡ fresh_site sib setting held.now) × (vec_len s.row ≡ sib.length)) }
 {
-    let row = vec![in heap; false; sib.length as usize]?;
+    let row = vec![in heap; false; usize::from(sib.length)]?;
     let held = Vec::from_slice(heap, held)?;
     Ok(Site {
         kind: sib.kind,
@@ -80,18 +84,20 @@ fn make_sites(
     ensures { IfOk result (λ v. (meanings v.items ≡ fresh_sites records.now settings.now held.now) × (vec_len v ≡ length records.now)) }
 {
     let mut sites = Vec::with_capacity(heap, records.len())?;
-    let mut end = held.len();
-    for i in (0..records.len()).rev() {
-        let start = end - records[i].length as usize;
-        sites.push_reserved(make_site(heap, records[i], settings[i], &held[start..end])?);
-        end = start;
+    let mut rest = held;
+    for (record, setting) in records.iter().zip(settings) {
+        let (bits, others) = rest.split_at(usize::from(record.length));
+        sites.push_reserved(make_site(heap, *record, *setting, bits)?);
+        rest = others;
     }
+    sites.reverse();
     Ok(sites)
 }
 
 impl Simulator {
     // A network with the table's SIBs: a setting for each record, and the bits that instruments hold at first, those of the
-    // lowest number first.
+    // lowest number first. (Lists side by side, and not pairs: the table is one slice for the translator too, and each list has a
+    // refusal of its own.)
     pub fn new(
         heap: Global,
         records: &[Record],
@@ -104,17 +110,18 @@ impl Simulator {
         if settings.len() != records.len() {
             return Err(NetworkFault::Settings);
         }
-        let bits = count_bits(records, settings)?;
+        if let Some(i) = first_outside(records, settings) {
+            return Err(NetworkFault::Outside { number: i + 1 });
+        }
+        let bits = count_bits(records);
         if held.len() != bits {
             return Err(NetworkFault::Held);
         }
         let sites = make_sites(heap, records, settings, held)?;
-        let path = Ring::new(heap, bits + records.len())?;
-        let stuck = Vec::with_capacity(heap, records.len())?;
+        let path = Path::new(heap, bits + records.len(), records.len())?;
         Ok(Simulator {
             sites,
             path,
-            stuck,
             phase: Phase::Rest,
             cable_out: false,
             lost: 0,

@@ -5,13 +5,13 @@ use refusal::TableFault;
 use table::Kind;
 
 // What an instrument offers of the bits that it holds.
-#[derive(Clone, Copy)]
+#[derive(Clone, Copy, Debug, PartialEq, Eq)]
 pub enum Offer {
     Keeps,
     Inverts,
 }
 
-#[derive(Clone, Copy)]
+#[derive(Clone, Copy, PartialEq, Eq)]
 pub(crate) enum Phase {
     Rest,
     Scan,
@@ -19,21 +19,21 @@ pub(crate) enum Phase {
 }
 
 // A cell of a row, from 0, that always shows the same bit.
-#[derive(Clone, Copy)]
+#[derive(Clone, Copy, Debug, PartialEq, Eq)]
 pub struct Stuck {
     pub cell: usize,
     pub bit: bool,
 }
 
 // How an instrument behaves: what it offers, and its stuck cell, if it has one.
-#[derive(Clone, Copy)]
+#[derive(Clone, Copy, Debug, PartialEq, Eq)]
 pub struct Setting {
     pub offer: Offer,
     pub fault: Option<Stuck>,
 }
 
 // Why no network is made.
-#[derive(Clone, Copy)]
+#[derive(Clone, Copy, Debug, PartialEq, Eq)]
 pub enum NetworkFault {
     Table(TableFault),
     // There is not one setting for each record.
@@ -45,7 +45,8 @@ pub enum NetworkFault {
     Memory,
 }
 
-// A cell of a path, by its place from the first on, that always shows the same bit.
+// A cell of a path that always shows the same bit, by its place from the first on. A type of its own beside `Stuck`, so that a
+// place on the path and a cell of a row are not mixed up.
 #[derive(Clone, Copy)]
 pub(crate) struct StuckPlace {
     pub(crate) place: usize,
@@ -60,6 +61,7 @@ pub(crate) struct Site {
     pub(crate) fault: Option<Stuck>,
     pub(crate) latch: bool,
     pub(crate) cell: bool,
+    // Cells and held bits are two rows, and no row of pairs: a capture and an update copy one into the other.
     pub(crate) row: Vec<bool>,
     pub(crate) held: Vec<bool>,
     ghost even: { vec_len held ≡ vec_len row },

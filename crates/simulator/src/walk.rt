@@ -1,13 +1,14 @@
 // What one site adds to a path, and what it takes from one.
-ghost use Rattle.std.specs.Prelude.{◌≡◌, ℕ, ◌+◌, ◌^◌, ◌<◌, ◌≤◌, Bool, true, false, List, ◌++◌, length, drop, vec_len, vec_capacity};
+ghost use Rattle.std.specs.Prelude.{◌≡◌, ℕ, ◌+◌, ◌^◌, ◌<◌, ◌≤◌, Bool, false, List, ◌++◌, length, drop};
 ghost use Rattle.std.specs.Option.{option_to_list};
+ghost use Rattle.std.specs.VecDeque.{deque_len, deque_capacity};
 ghost use Rattle.scan.specs.Network.{live};
 ghost use Rattle.scan.specs.Path.{offered, flaws_of, reach_after};
 ghost use Rattle.scan.specs.Moves.{closed, put, updated};
-ghost use Rattle.simulator.specs.Meaning.{meaning, holding, offered_bit, stuck_at, dealt};
+ghost use Rattle.simulator.specs.Meaning.{meaning, holding, offered_bit, stuck_at};
 
-use crate::ring::Ring;
 use crate::site::{Offer, Site, StuckPlace};
+use std::collections::VecDeque;
 use table::Kind;
 
 impl Offer {
@@ -37,8 +38,8 @@ impl Site {
         ensures { (before : ℕ) → self.now.depth ≤ before → result ≡ reach_after before (meaning self.now).build self.now.latch }
     {
         match self.kind {
-            Kind::Doorway if self.latch => self.depth as u16 + 1,
-            _ => self.depth as u16,
+            Kind::Doorway if self.latch => u16::from(self.depth) + 1,
+            _ => u16::from(self.depth),
         }
     }
 
@@ -49,22 +50,22 @@ impl Site {
     }
 
     // Adds what it offers to a path that is captured.
-    pub(crate) fn offer_onto(&self, path: &mut Ring)
-        requires { vec_len path.old.bits + length (flaws_of (meaning self.now)) ≤ vec_capacity path.old.bits }
-        ensures bits { path.new.bits.items ≡ path.old.bits.items ++ offered (meaning self.now) }
-        ensures len { vec_len path.new.bits ≡ vec_len path.old.bits + length (flaws_of (meaning self.now)) }
-        ensures head { path.new.head ≡ path.old.head }
-        ensures room { vec_capacity path.new.bits ≡ vec_capacity path.old.bits }
+    pub(crate) fn offer_onto(&self, path: &mut VecDeque<bool>)
+        requires { deque_len path.old + length (flaws_of (meaning self.now)) ≤ deque_capacity path.old }
+        ensures bits { path.new.items ≡ path.old.items ++ offered (meaning self.now) }
+        ensures len { deque_len path.new ≡ deque_len path.old + length (flaws_of (meaning self.now)) }
+        ensures room { deque_capacity path.new ≡ deque_capacity path.old }
     {
-        path.append(self.latch);
+        path.push_back(self.latch).unwrap();
         if self.is_live() {
-            for held in self.held.iter() {
-                path.append(self.offer.bit(*held));
+            for held in &self.held {
+                path.push_back(self.offer.bit(*held)).unwrap();
             }
         }
     }
 
     // Its stuck cell, where the SIB's own cell has this place on the path and its row is on the path with it.
+    #[tactic(auto, using(crate::proofs::Places::stuck_part, std::proofs::lemmas::Bool::Decides::nat_tests))]
     pub(crate) fn stuck_on(&self, place: usize) -> Option<StuckPlace>
         requires { place + length (flaws_of (meaning self.now)) < 2 ^ 64 }
         ensures { option_to_list result ≡ stuck_at place self.now }
@@ -79,53 +80,42 @@ impl Site {
         })
     }
 
-    // Takes its part of a path's bits, from a place on, into its cells; answers the place after it.
-    fn take(&mut self, bits: &[bool], at: usize) -> usize
-        requires { at + length (flaws_of (meaning self.old)) ≤ length bits.now }
-        ensures site { meaning self.new ≡ put (meaning self.old) (drop at bits.now) }
-        ensures next { result ≡ at + length (flaws_of (meaning self.old)) }
+    // Takes its part from the front of a path's bits into its cells; answers the bits that are left.
+    pub(crate) fn take<'a>(&mut self, bits: &'a [bool]) -> &'a [bool]
+        requires { length (flaws_of (meaning self.old)) ≤ length bits.now }
+        ensures site { meaning self.new ≡ put (meaning self.old) bits.now }
+        ensures rest { result.now ≡ drop (length (flaws_of (meaning self.old))) bits.now }
     {
-        self.cell = bits[at];
+        let (cell, rest) = bits.split_first().unwrap();
+        self.cell = *cell;
         if !self.is_live() {
-            return at + 1;
+            return rest;
         }
-        let end = at + 1 + self.row.len();
-        self.row.copy_from_slice(&bits[at + 1..end]);
-        end
+        let (row, rest) = rest.split_at(self.row.len());
+        self.row.copy_from_slice(row);
+        rest
     }
 
     // An instrument holds what its cells show.
+    #[tactic(auto, using(crate::proofs::Rows::shown_row, std::proofs::lemmas::List::set_past))]
     fn hold(&mut self)
         ensures { meaning self.new ≡ holding (meaning self.old) }
     {
         self.held.copy_from_slice(&self.row);
         if let Some(stuck) = self.fault {
-            if stuck.cell < self.held.len() {
-                self.held[stuck.cell] = stuck.bit;
+            if let Some(bit) = self.held.get_mut(stuck.cell) {
+                *bit = stuck.bit;
             }
         }
     }
 
     // An open instrument holds what its cells show, and the latch takes what the SIB's cell shows.
-    fn update(&mut self)
+    pub(crate) fn update(&mut self)
         ensures { meaning self.new ≡ updated (meaning self.old) }
     {
         if self.is_live() {
             self.hold();
         }
         self.latch = self.cell;
-    }
-
-    // Takes its part of a path's bits, and is updated by them where they are latched.
-    pub(crate) fn deal(&mut self, bits: &[bool], at: usize, latches: bool) -> usize
-        requires { at + length (flaws_of (meaning self.old)) ≤ length bits.now }
-        ensures site { meaning self.new ≡ dealt latches (meaning self.old) (drop at bits.now) }
-        ensures next { result ≡ at + length (flaws_of (meaning self.old)) }
-    {
-        let end = self.take(bits, at);
-        if latches {
-            self.update();
-        }
-        end
     }
 }

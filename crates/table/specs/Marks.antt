@@ -17,7 +17,11 @@ names_sib rs n = nat_le 1 n && nat_le n (length rs)
 abbrev pub names_instrument : List Record → ℕ → Bool
 names_instrument rs n = names_sib rs n && not (is_doorway (numbered rs n).kind)
 
--- the answer of a look-up
+-- the answers of the two look-ups
+abbrev pub FindsSib : List Record → ℕ → Option (Bor Record) → Type 0
+FindsSib rs n None = names_sib rs n ≡ false
+FindsSib rs n (Some r) = (names_sib rs n ≡ true) × (r.now ≡ numbered rs n)
+
 abbrev pub FindsInstrument : List Record → ℕ → Option (Bor Record) → Type 0
 FindsInstrument rs n None = names_instrument rs n ≡ false
 FindsInstrument rs n (Some r) = (names_instrument rs n ≡ true) × (r.now ≡ numbered rs n)

@@ -1,7 +1,9 @@
 // Groups on tables of several shapes, on simulated networks whose instruments all invert zeros at first.
-use refusal::Refusal;
-use simulator::{Offer, Setting, Simulator};
+use crate::setup::{INVERTS, LOST, network_of};
+use refusal::{Refusal, ScanFault, TableFault};
+use simulator::Simulator;
 use std::alloc::Global;
+use std::iter;
 use std::process::Abort;
 use std::test::Fail;
 use table::{Record, check_table};
@@ -13,21 +15,15 @@ struct Order(usize, bool);
 
 const UNWRITTEN: u8 = 0xA5;
 
-fn network_of(heap: Global, records: &[Record]) -> Result<Simulator, Fail> {
-    let inverts = Setting {
-        offer: Offer::Inverts,
-        fault: None,
-    };
-    let settings = vec![in heap; inverts; records.len()]?;
-    let mut bits: usize = 0;
-    for record in records {
-        bits = bits.saturating_add(record.length as usize);
-    }
-    let held = vec![in heap; false; bits]?;
-    match Simulator::new(heap, records, settings.as_slice(), held.as_slice()) {
-        Ok(network) => Ok(network),
-        Err(_) => Err(Fail::new("no network")),
-    }
+// A network whose instruments all invert and hold zeros.
+fn inverting(heap: Global, records: &[Record]) -> Result<Simulator, Fail> {
+    let settings = vec![in heap; INVERTS; records.len()]?;
+    let cells = records.iter().fold(
+        0usize,
+        |cells, record| cells.saturating_add(usize::from(record.length)),
+    );
+    let zeros = vec![in heap; b'0'; cells]?;
+    network_of(heap, records, settings.as_slice(), zeros.as_slice())
 }
 
 fn three(excluded: bool) -> [Record; 3] {
@@ -52,31 +48,25 @@ fn send(
     sent: &[u8],
     reply: &mut [u8],
 ) -> Result<Applied, Refusal> {
-    for order in orders {
-        control(table, order.0, order.1)?;
+    for Order(number, write) in orders {
+        control(table, *number, *write)?;
     }
     data(table, network, sent, reply)
 }
 
-// The answer's refusal number, or 0 with the bits shifted and the reply buffer, whose other bytes must stay as they were.
+// The answer's refusal, or the bits shifted; and the bytes of the reply, after which the buffer must stay as it was.
 fn check_answer(
     rt: &impl Abort,
     answer: Result<Applied, Refusal>,
-    number: u8,
-    shifted: u64,
+    shifted: Result<u64, Refusal>,
     reply: &[u8],
     bytes: &[u8],
 ) {
-    match answer {
-        Ok(applied) => {
-            assert_eq!(rt; number, 0);
-            assert_eq!(rt; applied.shifted, shifted);
-            assert_eq!(rt; applied.reply, bytes.len());
-        }
-        Err(refusal) => assert_eq!(rt; refusal.number(), number),
-    }
-    for (i, byte) in reply.iter().enumerate() {
-        assert_eq!(rt; *byte, bytes.get(i).copied().unwrap_or(UNWRITTEN));
+    let answer = answer.map(|applied| (applied.shifted, applied.reply));
+    assert_eq!(rt; answer, shifted.map(|shifted| (shifted, bytes.len())));
+    let wanted = bytes.iter().chain(iter::repeat(&UNWRITTEN));
+    for (byte, wanted) in reply.iter().zip(wanted) {
+        assert_eq!(rt; *byte, *wanted);
     }
 }
 
@@ -89,10 +79,10 @@ fn check_group(
     shifted: u64,
     bytes: &[u8],
 ) -> Result<(), Fail> {
-    let mut network = network_of(heap, table)?;
+    let mut network = inverting(heap, table)?;
     let mut reply = [UNWRITTEN; 9];
     let answer = send(table, &mut network, orders, sent, &mut reply);
-    check_answer(rt, answer, 0, shifted, &reply, bytes);
+    check_answer(rt, answer, Ok(shifted), &reply, bytes);
     Ok(())
 }
 
@@ -151,7 +141,7 @@ fn replies_and_bit_counts(rt: HostRuntime) -> Result<(), Fail> {
 fn the_bits_of_an_excluded_write_are_skipped(rt: HostRuntime) -> Result<(), Fail> {
     let heap = rt.alloc();
     let mut table = three(true);
-    let mut network = network_of(heap, &table)?;
+    let mut network = inverting(heap, &table)?;
     let mut reply = [UNWRITTEN; 9];
     let answer = send(
         &mut table,
@@ -160,7 +150,7 @@ fn the_bits_of_an_excluded_write_are_skipped(rt: HostRuntime) -> Result<(), Fail
         &[0x0F, 0xF0],
         &mut reply,
     );
-    check_answer(&rt, answer, 0, 14, &reply, &[0, 3, 0, 2]);
+    check_answer(&rt, answer, Ok(14), &reply, &[0, 3, 0, 2]);
     let mut reply = [UNWRITTEN; 9];
     let answer = send(
         &mut table,
@@ -169,7 +159,7 @@ fn the_bits_of_an_excluded_write_are_skipped(rt: HostRuntime) -> Result<(), Fail
         &[],
         &mut reply,
     );
-    check_answer(&rt, answer, 0, 14, &reply, &[0x0F, 0, 0]);
+    check_answer(&rt, answer, Ok(14), &reply, &[0x0F, 0, 0]);
     Ok(())
 }
 
@@ -177,10 +167,10 @@ fn the_bits_of_an_excluded_write_are_skipped(rt: HostRuntime) -> Result<(), Fail
 fn refused_groups_stay_chosen(rt: HostRuntime) -> Result<(), Fail> {
     let heap = rt.alloc();
     let mut table = [Record::instrument(1, 6), Record::instrument(1, 3)];
-    let mut network = network_of(heap, &table)?;
+    let mut network = inverting(heap, &table)?;
     let mut reply = [UNWRITTEN; 9];
     let answer = send(&mut table, &mut network, &[], &[0], &mut reply);
-    check_answer(&rt, answer, 6, 0, &reply, &[]);
+    check_answer(&rt, answer, Err(Refusal::NothingChosen), &reply, &[]);
     let answer = send(
         &mut table,
         &mut network,
@@ -188,24 +178,25 @@ fn refused_groups_stay_chosen(rt: HostRuntime) -> Result<(), Fail> {
         &[0],
         &mut reply,
     );
-    check_answer(&rt, answer, 7, 0, &reply, &[]);
+    check_answer(&rt, answer, Err(Refusal::DataLength), &reply, &[]);
     let mut small = [UNWRITTEN; 1];
     let answer = data(&mut table, &mut network, &[0xFF, 0x80], &mut small);
-    check_answer(&rt, answer, 8, 0, &small, &[]);
-    match control(&mut table, 1, true) {
-        Ok(()) => Err(Fail::new("chosen no more")),
-        Err(refusal) => {
-            assert_eq!(rt; refusal.number(), 5);
-            Ok(())
-        },
-    }
+    check_answer(
+        &rt,
+        answer,
+        Err(Refusal::TooSmall { needed: 2 }),
+        &small,
+        &[],
+    );
+    assert_eq!(rt; control(&mut table, 1, true), Err(Refusal::AlreadyChosen));
+    Ok(())
 }
 
 #[test]
 fn a_lost_group_leaves_zeros_and_its_choice(rt: HostRuntime) -> Result<(), Fail> {
     let heap = rt.alloc();
     let mut table = three(false);
-    let mut network = network_of(heap, &table)?;
+    let mut network = inverting(heap, &table)?;
     let mut reply = [UNWRITTEN; 9];
     network.pull_cable(true);
     let answer = send(
@@ -215,18 +206,18 @@ fn a_lost_group_leaves_zeros_and_its_choice(rt: HostRuntime) -> Result<(), Fail>
         &[0xFF],
         &mut reply,
     );
-    check_answer(&rt, answer, 9, 0, &reply, &[0, 0, 0]);
+    check_answer(&rt, answer, Err(Refusal::Scan(LOST)), &reply, &[0, 0, 0]);
     network.pull_cable(false);
     let answer = data(&mut table, &mut network, &[0xFF], &mut reply);
-    check_answer(&rt, answer, 0, 22, &reply, &[0xFF, 0, 0]);
+    check_answer(&rt, answer, Ok(22), &reply, &[0xFF, 0, 0]);
     Ok(())
 }
 
 // Doorways of depth 1 to `depth` - 1, and an instrument behind the last.
 fn chain(heap: Global, depth: u8) -> Result<Vec<Record>, Fail> {
     let mut records = vec![in heap; Record::instrument(depth, 1)]?;
-    for level in 1..depth {
-        records.push(Record::doorway(depth - level))?;
+    for level in (1..depth).rev() {
+        records.push(Record::doorway(level))?;
     }
     Ok(records)
 }
@@ -246,11 +237,26 @@ fn tables_reach_eight_deep(rt: HostRuntime) -> Result<(), Fail> {
         &[0x80, 0, 0],
     )?;
     let too_deep = chain(heap, 9)?;
-    match check_table(too_deep.as_slice()) {
-        Ok(()) => Err(Fail::new("nine deep")),
-        Err(fault) => {
-            assert_eq!(rt; fault.number(), 2);
-            Ok(())
-        },
+    assert_eq!(rt;
+        check_table(too_deep.as_slice()),
+        Err(TableFault::Broken { number: 1 })
+    );
+    Ok(())
+}
+
+#[test]
+fn refusals_have_their_numbers(rt: HostRuntime) -> Result<(), Fail> {
+    let numbers = [
+        (Refusal::Table(TableFault::Broken { number: 1 }), 2),
+        (Refusal::AlreadyChosen, 5),
+        (Refusal::NothingChosen, 6),
+        (Refusal::DataLength, 7),
+        (Refusal::TooSmall { needed: 2 }, 8),
+        (Refusal::Scan(LOST), 9),
+        (Refusal::Scan(ScanFault::WrongPhase), 14),
+    ];
+    for (refusal, number) in numbers {
+        assert_eq!(rt; refusal.number(), number);
     }
+    Ok(())
 }

@@ -9,7 +9,7 @@ use std::alloc::{AllocError, Global};
 pub fn printed(heap: Global, text: &[u8]) -> Result<String, AllocError> {
     let mut out = String::new(heap);
     for line in run_text(heap, text)?.iter() {
-        out.push_str(format!(in heap; "{line}\n")?.as_str())?;
+        writeln!(out, "{line}")?;
     }
     Ok(out)
 }
@@ -18,6 +18,8 @@ pub fn printed(heap: Global, text: &[u8]) -> Result<String, AllocError> {
 mod groups;
 #[cfg(test)]
 mod networks;
+#[cfg(test)]
+mod setup;
 
 #[cfg(test)]
 mod tests {

@@ -8,6 +8,6 @@ pub returns : goal.returns
 returns c = record {
   test = search rules;
   after = search rules;
-  in_row = λ h k. row_set c.args.bytes.now c.args.byte c.args.place c.with_bit.result c.args.bit h k
-      (ap byte_bits c.with_bit.ensures ∙ byte_with_bit _ c.args.place c.args.bit (search rules) k);
+  in_row = λ h k. row_set c.args.bytes.now c.args.at.byte c.args.at.place c.with_bit.result c.args.bit h k
+      (ap byte_bits c.with_bit.ensures ∙ byte_with_bit _ c.args.at.place c.args.bit (search rules) k);
 }

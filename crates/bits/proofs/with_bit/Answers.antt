@@ -1,11 +1,6 @@
 use Rattle.std.proofs.Common.{arith}
-use Rattle.bits.proofs.Every.{weight_within, weight_fits}
+use Rattle.bits.proofs.Every.{weight_fits}
 use Rattle.bits.proofs.with_bit.Goals as goal
-
-pub overflow_sub-result : goal.overflow_sub-result
-overflow_sub-result c =
-    let h = weight_within c.args.byte c.args.place (omega arith) c.requires c.in-true-false.ensures in
-    omega arith
 
 pub overflow_add-result : goal.overflow_add-result
 overflow_add-result c =

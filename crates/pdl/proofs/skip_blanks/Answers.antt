@@ -1,14 +1,9 @@
-use Rattle.std.proofs.Common.{subst}
-use Rattle.pdl.specs.Text.{blank, Stops}
-use Rattle.pdl.specs.Parse.{front}
-use Rattle.pdl.proofs.Spans.{front_behind, front_all, behind_stops}
+use Rattle.std.proofs.Common.{arith, rules}
+use Rattle.pdl.proofs.Spans.{cut_at, behind_stops}
 use Rattle.pdl.proofs.skip_blanks.Goals as goal
 
-pub returns : goal.returns
-returns c =
-    let text = c.args.text.now in
-    record {
-      cut = (front blank text, front_all blank text, cc (front_behind blank text));
-      stops = subst (Stops blank) (cc) (behind_stops blank text);
-      same = cc;
-    }
+pub returns-clause-cut : goal.returns-clause-cut
+returns-clause-cut c = search (rules, cut_at)
+
+pub returns-clause-stops : goal.returns-clause-stops
+returns-clause-stops c = grind (arith, behind_stops)

@@ -4,8 +4,8 @@ use Rattle.reply.proofs.count_choice.Given as goal
 
 abbrev pub invariant-loop-i : goal.invariant-loop-i
 invariant-loop-i l =
-    (l.chosen ≡ total (chosen_at l.records) l.i)
-    × (l.sent_bits ≡ total (sent_at l.records) l.i)
-    × (l.kept_bits ≡ total (kept_at l.records) l.i)
-    × (l.listed ≡ total (listed_at l.records) l.i)
-    × (l.chosen ≤ l.i) × (l.sent_bits ≤ 65535 * l.i) × (l.kept_bits ≤ 65535 * l.i) × (l.listed ≤ l.i)
+    (l.sum.chosen ≡ total (chosen_at l.records) l.i)
+    × (l.sum.sent_bits ≡ total (sent_at l.records) l.i)
+    × (l.sum.kept_bits ≡ total (kept_at l.records) l.i)
+    × (l.sum.listed ≡ total (listed_at l.records) l.i)
+    × (l.sum.chosen ≤ l.i) × (l.sum.sent_bits ≤ 65535 * l.i) × (l.sum.kept_bits ≤ 65535 * l.i) × (l.sum.listed ≤ l.i)

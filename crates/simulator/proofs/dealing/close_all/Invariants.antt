@@ -1,8 +1,7 @@
-use Rattle.std.proofs.Common.{◌≡◌, ◌++◌, map, take, drop}
-use Rattle.scan.specs.Moves.{closed}
+use Rattle.scan.specs.Moves.{reset}
 use Rattle.simulator.specs.Meaning.{meanings}
+use Rattle.simulator.proofs.Changes.{Changed}
 use Rattle.simulator.proofs.dealing.close_all.Given as goal
 
 abbrev pub invariant-loop-site : goal.invariant-loop-site
-invariant-loop-site l =
-    meanings l.site-items ≡ map closed (take l.site-index (meanings l.initial.site-items)) ++ drop l.site-index (meanings l.initial.site-items)
+invariant-loop-site l = Changed reset l.site-items l.site-index (reset (meanings l.initial.site-items))

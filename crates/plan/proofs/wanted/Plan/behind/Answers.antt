@@ -1,42 +1,15 @@
-use Rattle.std.proofs.Common.{◌-◌, ap, arith}
-use Rattle.std.proofs.lemmas.Bool.Decides.{nat_tests}
+use Rattle.std.proofs.Common.{◌≡◌, ℕ, ◌+◌, ◌-◌, ap, ◌∙◌, arith}
 use Rattle.plan.specs.Order.{shape_at}
 use Rattle.plan.specs.Plans.{table_of}
-use Rattle.plan.specs.Length.{run}
-use Rattle.plan.proofs.Sections.{seen_step, seen_none}
+use Rattle.plan.specs.Length.{run, seen}
+use Rattle.plan.proofs.Chains.{run_back}
 use Rattle.plan.proofs.wanted.Plan.behind.Goals as goal
 
-pub returns-then-self-k : goal.returns-then-self-k
-returns-then-self-k c =
+pub returns-clause-count : goal.returns-clause-count
+returns-clause-count c pass =
     let p = c.args.self.now in
+    let b = c.args.bottom in
+    let m = c.args.number - 1 - b in
     let d = (shape_at (table_of p) c.args.number).depth in
-    record {
-      within = omega arith;
-      count = λ pass.
-          let here = ap (run d) (seen_step p pass (c.loop-k.k - 1) c.args.bottom (omega arith)) in
-          let inv = c.loop-k.invariant.1 pass in
-          grind (arith, nat_tests);
-    }
-
-pub loop-k-preserved : goal.loop-k-preserved
-loop-k-preserved c =
-    let p = c.args.self.now in
-    let d = (shape_at (table_of p) c.args.number).depth in (
-      omega arith,
-      λ pass.
-          let here = ap (run d) (seen_step p pass (c.loop-k.k - 1) c.args.bottom (omega arith)) in
-          let inv = c.loop-k.invariant.1 pass in
-          grind (arith, nat_tests),
-    )
-
-pub returns : goal.returns
-returns c =
-    let p = c.args.self.now in
-    let d = (shape_at (table_of p) c.args.number).depth in
-    record {
-      within = omega arith;
-      count = λ pass.
-          let here = ap (run d) (seen_none p pass (c.loop-k.k - 1) c.args.bottom (omega arith)) in
-          let inv = c.loop-k.invariant.1 pass in
-          omega arith;
-    }
+    let top : b + m ≡ c.args.number - 1 = omega (arith, c.requires) in
+    c.deeper_below.ensures ∙ run_back p pass d b m (omega (arith, c.requires)) ∙ ap (λ (n : ℕ). run d (seen p pass n b)) top

@@ -1,6 +1,4 @@
-use Rattle.std.proofs.Common.{◌≡◌, ℕ, length, refl, ap, ◌∙◌, arith}
-use Rattle.retarget.specs.Wants.{deepest}
-use Rattle.plan.specs.Order.{shapes, wanteds}
+use Rattle.std.proofs.Common.{◌∙◌}
 use Rattle.plan.proofs.Numbers.{deepest_more}
 use Rattle.plan.proofs.wanted.Plan.new.Goals as goal
 use Rattle.plan.proofs.wanted.Plan.new.Goals.{then-takes, else-takes}
@@ -12,9 +10,3 @@ loop-i-preserved c =
       | then-takes w ↦ w.depth-is ∙ w.max-depth.ensures ∙ (rw w.if-takes.true at more)
       | else-takes w ↦ w.depth-is ∙ (rw w.if-takes.false at more)
     ]
-
-pub returns : goal.returns
-returns c =
-    let rs = c.args.records.now in
-    let all : c.loop-i.i ≡ length rs = omega arith in
-    record { table = refl; wanted = refl; depth = c.loop-i.invariant ∙ ap (λ (n : ℕ). deepest (shapes rs n) (wanteds c.args.wanted rs n)) all }

@@ -1,22 +1,5 @@
-use Rattle.std.proofs.Common.{sym, refl}
-use Rattle.simulator.specs.Standing.{lost_call, captured_law}
+use Rattle.simulator.proofs.Standing.{captured_law}
 use Rattle.simulator.proofs.calls.SimulatorScan.capture.Goals as goal
 
-pub returns-then-self : goal.returns-then-self
-returns-then-self c =
-    let w = c.lose.ensures in
-    record {
-      did = λ _. rw w.answer (refl, lost_call _ _ _ w);
-      kept = λ v. v;
-      lost = rw w.answer (sym c.if-self.true);
-      cable = w.cable;
-    }
-
-pub returns : goal.returns
-returns c =
-    record {
-      did = λ _. captured_law _ _ c.in-Rest.is c.fill_path.ensures;
-      kept = λ v. v;
-      lost = sym c.if-self.false;
-      cable = c.fill_path.ensures.cable;
-    }
+pub returns-clause-did : goal.returns-clause-did
+returns-clause-did c = let b = c.in_ok-begin_in.ensures.begins in λ _. captured_law _ _ b.0 (rw b.1 at c.fill_path.ensures)
