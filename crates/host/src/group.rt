@@ -1,5 +1,8 @@
 // A group takes orders; iApply ends it and gives its command bytes and a pending reply.
-ghost use Rattle.std.specs.Prelude.{◌≡◌, OnErr, MatchResult};
+ghost use Rattle.std.specs.Prelude.{◌≡◌, [], ◌∷◌, ◌++◌, length, OnOk, OnErr, MatchResult};
+ghost use Rattle.refusal.specs.Checks.{answered, first_failing};
+ghost use Rattle.table.specs.Marks.{numbered};
+ghost use Rattle.host.specs.Orders.{ordered, order_checks, digit_check, Answers, IsRead, IsWrite, Takes};
 
 use crate::encoder::encode;
 use crate::fault::HostFault;
@@ -48,28 +51,40 @@ pub struct Unsent {
 }
 
 impl Group {
-    pub fn new(heap: Global) -> Group {
+    pub fn new(heap: Global) -> Group
+        ensures { result.orders.items ≡ [] }
+    {
         Group {
             orders: Vec::new(heap),
         }
     }
 
+    fn has_ordered(&self, number: usize) -> bool
+        ensures { result ≡ ordered self.now.orders.items number }
+    {
+        self.orders.iter().any(|order| order.number == number)
+    }
+
     // The length of the instrument that an order names, which no earlier order has named.
-    fn look_up(&self, table: &[Record], number: usize) -> Result<usize, HostFault> {
+    fn look_up(&self, table: &[Record], number: usize) -> Result<usize, Refusal>
+        ensures { result ≡ answered (numbered table.now number).length (first_failing (order_checks table.now self.now.orders.items number)) }
+    {
         check_table(table)?;
         // `let .. else`: a rule of the project for the look-up of an order (docs/DECISIONS.md).
         let Some(record) = find_instrument(table, number) else {
-            return Err(Refusal::NoInstrument.into());
+            return Err(Refusal::NoInstrument);
         };
-        if self.orders.iter().any(|order| order.number == number) {
-            return Err(Refusal::AlreadyChosen.into());
+        if self.has_ordered(number) {
+            return Err(Refusal::AlreadyChosen);
         }
         Ok(usize::from(record.length))
     }
 
     // Orders an instrument to be read. Refused, the group stays as it was.
     pub fn get(&mut self, table: &[Record], number: usize) -> Result<(), HostFault>
-        ensures { OnErr result (self.new.orders.items ≡ self.old.orders.items) }
+        ensures value { Answers (first_failing (order_checks table.now self.old.orders.items number)) result }
+        ensures taken { OnOk result (Takes self.old.orders.items number (numbered table.now number).length IsRead self.new.orders.items) }
+        ensures refused { OnErr result (self.new.orders.items ≡ self.old.orders.items) }
     {
         let order = Order {
             number,
@@ -82,7 +97,9 @@ impl Group {
 
     // Orders an instrument to be written; the first of the bits is shifted first. Refused, the group stays as it was.
     pub fn write(&mut self, table: &[Record], number: usize, bits: &[bool]) -> Result<(), HostFault>
-        ensures { OnErr result (self.new.orders.items ≡ self.old.orders.items) }
+        ensures value { Answers (first_failing (order_checks table.now self.old.orders.items number ++ digit_check table.now number (length bits.now) ∷ [])) result }
+        ensures taken { OnOk result (Takes self.old.orders.items number (numbered table.now number).length (IsWrite bits.now) self.new.orders.items) }
+        ensures refused { OnErr result (self.new.orders.items ≡ self.old.orders.items) }
     {
         let length = self.look_up(table, number)?;
         if bits.len() != length {

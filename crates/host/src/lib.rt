@@ -1,5 +1,6 @@
 // The host: groups of orders, and the command bytes that carry them out.
-// A refused order leaves its group as it was, and a refused group comes back; what the bytes say is so far tested only.
+// A group promises which orders it takes and refuses and what it is then, and a refused group comes back; what the command bytes
+// say is so far tested only.
 #![tactic(auto)]
 
 mod encoder;
