@@ -1,5 +1,5 @@
 -- What a group answers to an order. Checks run in this order, and the first that fails answers.
-use Rattle.std.specs.Prelude.{◌≡◌, ℕ, Bool, not, List, [], ◌∷◌, ◌++◌, Some, None, Ok, Err, vec_items, Option, Result, ◌==◌}
+use Rattle.std.specs.Prelude.{◌≡◌, ℕ, Bool, not, List, [], ◌∷◌, ◌++◌, Some, None, Ok, Err, length, take, drop, Option, Result, ◌==◌}
 use Rattle.std.specs.List.{list_any}
 use Rattle.std.specs.Option.{option_map}
 use Rattle.refusal.specs.declared.Refusal.{Refusal}
@@ -31,14 +31,14 @@ Answers o (Ok x) = o ≡ None
 Answers o (Err (Refused e)) = o ≡ Some e
 Answers o (Err (Memory a)) = o ≡ None
 
--- what an order does
+-- What an order does. A write names the place among the group's bits at which its own begin.
 abbrev pub IsRead : Action → Type 0
 IsRead Read = Unit {0}
 IsRead (Write v) = ⊥
 
-abbrev pub IsWrite : List Bool → Action → Type 0
-IsWrite bits Read = ⊥
-IsWrite bits (Write v) = vec_items v ≡ bits
+abbrev pub IsWrite : List Bool → List Bool → Action → Type 0
+IsWrite held bits Read = ⊥
+IsWrite held bits (Write first) = take (length bits) (drop first held) ≡ bits
 
 -- One order more at the end: its number, its instrument's length, and what it does.
 abbrev pub Takes : List Order → ℕ → ℕ → (Action → Type 0) → List Order → Type 0

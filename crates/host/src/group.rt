@@ -1,5 +1,5 @@
 // A group takes orders; iApply ends it and gives its command bytes and a pending reply.
-ghost use Rattle.std.specs.Prelude.{◌≡◌, [], ◌∷◌, ◌++◌, length, OnOk, OnErr, MatchResult};
+ghost use Rattle.std.specs.Prelude.{◌≡◌, [], ◌∷◌, ◌++◌, length, OnOk, OnErr, MatchResult, is_ok, if◌then◌else◌};
 ghost use Rattle.refusal.specs.Checks.{answered, first_failing};
 ghost use Rattle.table.specs.Marks.{numbered};
 ghost use Rattle.host.specs.Orders.{ordered, order_checks, digit_check, Answers, IsRead, IsWrite, Takes};
@@ -10,16 +10,16 @@ use refusal::Refusal;
 use std::alloc::{AllocError, Global};
 use table::{Record, check_table, find_instrument};
 
-#[derive(Drop)]
+#[derive(Clone, Copy, Debug, PartialEq, Eq)]
 pub enum Action {
     Read,
-    // The first of the bits is shifted first.
-    Write { bits: Vec<bool> },
+    // Its bits begin here among the group's. The first of them is shifted first.
+    Write { first: usize },
 }
 
-// An order keeps what it needs of its instrument, so that nothing after it asks for the table. Every order has its length, a
-// write's too, since a reply is taken apart by the lengths of all.
-#[derive(Drop)]
+// An order keeps what it needs of its instrument, so that nothing after it asks for the table. It is a plain value: the bits of
+// all writes stand in the group, one write after the other.
+#[derive(Clone, Copy, Debug, PartialEq, Eq)]
 pub struct Order {
     pub number: usize,
     pub length: usize,
@@ -29,6 +29,7 @@ pub struct Order {
 #[derive(Drop)]
 pub struct Group {
     orders: Vec<Order>,
+    bits: Vec<bool>,
 }
 
 // A reply that is still to come, for these orders. A type of its own beside `Group`: what was sent takes no more orders.
@@ -52,10 +53,11 @@ pub struct Unsent {
 
 impl Group {
     pub fn new(heap: Global) -> Group
-        ensures { result.orders.items ≡ [] }
+        ensures { (result.orders.items ≡ []) × (result.bits.items ≡ []) }
     {
         Group {
             orders: Vec::new(heap),
+            bits: Vec::new(heap),
         }
     }
 
@@ -85,6 +87,7 @@ impl Group {
         ensures value { Answers (first_failing (order_checks table.now self.old.orders.items number)) result }
         ensures taken { OnOk result (Takes self.old.orders.items number (numbered table.now number).length IsRead self.new.orders.items) }
         ensures refused { OnErr result (self.new.orders.items ≡ self.old.orders.items) }
+        ensures bits { self.new.bits.items ≡ self.old.bits.items }
     {
         let order = Order {
             number,
@@ -98,19 +101,23 @@ impl Group {
     // Orders an instrument to be written; the first of the bits is shifted first. Refused, the group stays as it was.
     pub fn write(&mut self, table: &[Record], number: usize, bits: &[bool]) -> Result<(), HostFault>
         ensures value { Answers (first_failing (order_checks table.now self.old.orders.items number ++ digit_check table.now number (length bits.now) ∷ [])) result }
-        ensures taken { OnOk result (Takes self.old.orders.items number (numbered table.now number).length (IsWrite bits.now) self.new.orders.items) }
+        ensures taken { OnOk result (Takes self.old.orders.items number (numbered table.now number).length (IsWrite self.new.bits.items bits.now) self.new.orders.items) }
         ensures refused { OnErr result (self.new.orders.items ≡ self.old.orders.items) }
+        ensures bits { self.new.bits.items ≡ (if is_ok result then self.old.bits.items ++ bits.now else self.old.bits.items) }
     {
         let length = self.look_up(table, number)?;
         if bits.len() != length {
             return Err(Refusal::DigitCount.into());
         }
-        let bits = Vec::from_slice(*self.orders.allocator(), bits)?;
-        self.orders.push(Order {
+        let first = self.bits.len();
+        // Room for the order comes first, so that nothing has to be undone.
+        self.orders.reserve(1)?;
+        self.bits.extend_from_slice(bits)?;
+        self.orders.push_reserved(Order {
             number,
             length,
-            action: Action::Write { bits },
-        })?;
+            action: Action::Write { first },
+        });
         Ok(())
     }
 
@@ -119,9 +126,9 @@ impl Group {
         ensures { MatchResult result (λ s. s.pending.orders ≡ self.orders) (λ u. u.group ≡ self) }
     {
         // No `?`: a refused group goes back with its refusal.
-        match encode(heap, self.orders.as_slice()) {
+        match encode(heap, self.orders.as_slice(), self.bits.as_slice()) {
             Ok(command) => {
-                let Group { orders } = self;
+                let Group { orders, bits: _ } = self;
                 Ok(Sent {
                     command,
                     pending: Pending { orders },
