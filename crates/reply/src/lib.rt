@@ -108,11 +108,11 @@ pub fn put_number(reply: &mut [u8], at: usize, number: usize) -> Option<()>
 pub fn put_list(reply: &mut [u8], records: &[Record], size: GroupSize)
     ensures { reply.new ≡ with_numbers reply.old size.body (listed records.now (length records.now) ++ size.list ∷ []) }
 {
-    // Goes on only where a number is put, so nothing counts it.
     let mut at = size.body;
-    for (i, record) in records.iter().enumerate().rev() {
-        if record.chosen && counts_excluded(records, i + 1) {
-            let _ = put_number(reply, at, i + 1);
+    // By number, which is what the list names.
+    for number in (1..=records.len()).rev() {
+        if records[number - 1].chosen && counts_excluded(records, number) {
+            let _ = put_number(reply, at, number);
             at = at.saturating_add(2);
         }
     }
