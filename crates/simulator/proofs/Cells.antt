@@ -23,8 +23,10 @@ same_built ss ts ms e b = all_built ss ∙ ap built_cells (ap (map build_of) e �
 pub cells_filled : (ss ts : List Site) (ms bs : List Bool) → meanings ss ≡ fill ms (meanings ts) bs → all_cells ss ≡ all_cells ts
 cells_filled ss ts ms bs e = same_built ss ts _ e (map_spread build_of put (λ _ _. refl) ms (meanings ts) bs)
 
-pub cells_updated : (ss ts : List Site) → meanings ss ≡ update (meanings ts) → all_cells ss ≡ all_cells ts
-cells_updated ss ts e = same_built ss ts _ e (map_each build_of updated (λ _. refl) (on (meanings ts)) (meanings ts))
+pub cells_updated : (ss ts : List Site) (ms bs : List Bool) → meanings ss ≡ update (fill ms (meanings ts) bs) → all_cells ss ≡ all_cells ts
+cells_updated ss ts ms bs e =
+    let filled = fill ms (meanings ts) bs in
+    same_built ss ts _ e (map_each build_of updated (λ _. refl) (on filled) filled ∙ map_spread build_of put (λ _ _. refl) ms (meanings ts) bs)
 
 pub cells_reset : (ss ts : List Site) → meanings ss ≡ reset (meanings ts) → all_cells ss ≡ all_cells ts
 cells_reset ss ts e = same_built ss ts _ e (map_reset build_of (λ _. refl) (meanings ts))

@@ -34,6 +34,11 @@ part_within s = omega (arith, part_at (live (meaning s)) (length (vec_items s.ro
 abbrev Next : List Site → ℕ → Site → Type 0
 Next items i s = drop i items ≡ s ∷ drop (i + 1) items
 
+-- There is room for the part of the next site.
+pub part_fits : {items : List Site} {i r n room m places room₀ places₀ : ℕ} {bits : List Bool} {cells : List StuckPlace} {s : Site}
+    → Gathered items i r bits n room cells m places room₀ places₀ → Next items i s → n + length (flaws_of (meaning s)) ≤ room
+part_fits {s = s} w e = omega (arith, w.room_left, ap all_cells e, part_within s)
+
 pub gathered_on : {items : List Site} {i r r' : ℕ} {bits bits' : List Bool} {n n' room room' : ℕ} {cells cells' : List StuckPlace} {m m' places places' room₀ places₀ : ℕ} {s : Site}
     → Gathered items i r bits n room cells m places room₀ places₀ → Next items i s → s.depth ≤ r
     → r' ≡ reach_after r (meaning s).build s.latch

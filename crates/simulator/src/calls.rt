@@ -22,6 +22,7 @@ impl Simulator {
     }
 
     // Begins a call, which is lost where the cable is out.
+    #[inline]
     fn begin(&mut self) -> Result<(), ScanFault>
         ensures { Begins self.old result self.new }
     {
@@ -34,6 +35,7 @@ impl Simulator {
     }
 
     // Begins a call that is refused in any phase but one.
+    #[inline]
     #[tactic(auto, using(crate::proofs::Standing::lost_call))]
     fn begin_in(&mut self, phase: Phase) -> Result<(), ScanFault>
         ensures begins { BeginsIn phase self.old result self.new }
@@ -66,6 +68,7 @@ impl Simulator {
     }
 
     // Shifts one bit through the path, whose stuck cells show their bits.
+    #[inline]
     fn turn(&mut self, bit: bool) -> bool
         requires { self.old.phase ≡ Phase.Scan }
         ensures { Turned self.old bit result self.new }
@@ -112,6 +115,7 @@ impl Scan for Simulator {
         Ok(())
     }
 
+    #[inline]
     fn shift(&mut self, bit: bool) -> Result<bool, ScanFault>
         ensures did { Unit {0} → Shifts by_network (network self.old) bit result (network self.new) }
         ensures kept { Unit {0} → Unit {0} }
@@ -129,8 +133,8 @@ impl Scan for Simulator {
         ensures cable { self.new.cable_out ≡ self.old.cable_out }
     {
         self.begin_in(Phase::Scan)?;
-        self.empty_path();
-        update_all(&mut self.sites);
+        self.phase = Phase::Rest;
+        update_all(&mut self.sites, self.path.bits.make_contiguous());
         Ok(())
     }
 }

@@ -22,16 +22,20 @@ pub(crate) fn deal(sites: &mut [Site], bits: &[bool])
     }
 }
 
-// Updates the sites on the path, as the latches were before. The walk over the path stands here, in `deal` and in
-// `Path::gather`: as one function that takes a closure it would need a contract for each state that the closure passes through.
-pub(crate) fn update_all(sites: &mut [Site])
+// The same, and updates the sites on the path, as the latches were before: one walk, so that each row is still at hand. The walk
+// over the path stands here, in `deal` and in `Path::gather`: as one function that takes a closure it would need a contract for
+// each state that the closure passes through.
+pub(crate) fn update_all(sites: &mut [Site], bits: &[bool])
+    requires { length bits.now ≡ length (path_flaws (meanings sites.old)) }
     ensures size { SameSize sites.old sites.new }
-    ensures sites { meanings sites.new ≡ update (meanings sites.old) }
+    ensures sites { meanings sites.new ≡ update (fill (on (meanings sites.old)) (meanings sites.old) bits.now) }
 {
     let mut reach = 1;
+    let mut rest = bits;
     for site in sites {
         if u16::from(site.depth) <= reach {
             reach = site.reach();
+            rest = site.take(rest);
             site.update();
         }
     }

@@ -9,6 +9,7 @@ ghost use Rattle.simulator.specs.Meaning.{meanings, all_cells, stuck_places, for
 use crate::site::{Site, StuckPlace};
 use std::alloc::{AllocError, Global};
 use std::collections::VecDeque;
+use std::mem;
 
 // The bits of its cells, and its stuck cells, from the first on.
 #[derive(Drop)]
@@ -30,6 +31,7 @@ fn note(stuck: &mut Vec<StuckPlace>, cell: Option<StuckPlace>)
 }
 
 // Has every stuck cell of a path show its bit.
+#[inline]
 fn force_all(bits: &mut VecDeque<bool>, stuck: &[StuckPlace])
     ensures bits { bits.new.items ≡ forced bits.old.items stuck.now }
     ensures len { deque_len bits.new ≡ deque_len bits.old }
@@ -62,17 +64,23 @@ impl Path {
     {
         self.bits.clear();
         self.stuck.clear();
+        // Gathered as a plain row, which takes a bit without asking where its room ends. It begins at the front of that room, so
+        // that after a whole pass the bits lie in order, or are put in order by two moves.
+        let empty = VecDeque::new(*self.bits.allocator());
+        let mut bits = mem::replace(&mut self.bits, empty).into_vec();
         let mut reach = 1;
         for site in sites {
             if u16::from(site.depth) <= reach {
-                note(&mut self.stuck, site.stuck_on(self.bits.len()));
-                site.offer_onto(&mut self.bits);
+                note(&mut self.stuck, site.stuck_on(bits.len()));
+                site.offer_onto(&mut bits);
                 reach = site.reach();
             }
         }
+        self.bits = VecDeque::from_vec(bits);
     }
 
     // Moves a bit in at the end; what the first cell showed comes out.
+    #[inline]
     pub(crate) fn shift(&mut self, bit: bool) -> bool
         ensures out { result ≡ first (forced self.old.bits.items self.old.stuck.items) bit }
         ensures bits { self.new.bits.items ≡ moved (forced self.old.bits.items self.old.stuck.items) bit }
@@ -84,7 +92,7 @@ impl Path {
         let Some(out) = self.bits.pop_front() else {
             return bit;
         };
-        self.bits.push_back(bit).unwrap();
+        self.bits.push_back_reserved(bit);
         out
     }
 }

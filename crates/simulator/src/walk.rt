@@ -1,14 +1,12 @@
 // What one site adds to a path, and what it takes from one.
-ghost use Rattle.std.specs.Prelude.{◌≡◌, ℕ, ◌+◌, ◌^◌, ◌<◌, ◌≤◌, Bool, false, List, ◌++◌, length, drop};
+ghost use Rattle.std.specs.Prelude.{◌≡◌, ℕ, ◌+◌, ◌^◌, ◌<◌, ◌≤◌, Bool, false, List, ◌++◌, length, drop, vec_len, vec_capacity};
 ghost use Rattle.std.specs.Option.{option_to_list};
-ghost use Rattle.std.specs.VecDeque.{deque_len, deque_capacity};
 ghost use Rattle.scan.specs.Network.{live};
 ghost use Rattle.scan.specs.Path.{offered, flaws_of, reach_after};
 ghost use Rattle.scan.specs.Moves.{closed, put, updated};
 ghost use Rattle.simulator.specs.Meaning.{meaning, holding, offered_bit, stuck_at};
 
 use crate::site::{Offer, Site, StuckPlace};
-use std::collections::VecDeque;
 use table::Kind;
 
 impl Offer {
@@ -50,16 +48,16 @@ impl Site {
     }
 
     // Adds what it offers to a path that is captured.
-    pub(crate) fn offer_onto(&self, path: &mut VecDeque<bool>)
-        requires { deque_len path.old + length (flaws_of (meaning self.now)) ≤ deque_capacity path.old }
+    pub(crate) fn offer_onto(&self, path: &mut Vec<bool>)
+        requires { vec_len path.old + length (flaws_of (meaning self.now)) ≤ vec_capacity path.old }
         ensures bits { path.new.items ≡ path.old.items ++ offered (meaning self.now) }
-        ensures len { deque_len path.new ≡ deque_len path.old + length (flaws_of (meaning self.now)) }
-        ensures room { deque_capacity path.new ≡ deque_capacity path.old }
+        ensures len { vec_len path.new ≡ vec_len path.old + length (flaws_of (meaning self.now)) }
+        ensures room { vec_capacity path.new ≡ vec_capacity path.old }
     {
-        path.push_back(self.latch).unwrap();
+        path.push_reserved(self.latch);
         if self.is_live() {
             for held in &self.held {
-                path.push_back(self.offer.bit(*held)).unwrap();
+                path.push_reserved(self.offer.bit(*held));
             }
         }
     }

@@ -1,5 +1,4 @@
-use Rattle.std.proofs.Common.{◌≡◌, ◌+◌, ◌++◌, take, vec_items}
-use Rattle.std.specs.VecDeque.{deque_len, deque_capacity}
+use Rattle.std.proofs.Common.{◌≡◌, ◌+◌, ◌++◌, take, vec_items, vec_len, vec_capacity}
 use Rattle.simulator.specs.Meaning.{offer_of}
 use Rattle.simulator.proofs.site.Site.offer_onto.Given as goal
 
@@ -7,6 +6,6 @@ abbrev pub invariant-loop-held : goal.invariant-loop-held
 invariant-loop-held l =
     record {
       bits : l.path.items ≡ l.initial.path.items ++ offer_of l.self.offer (take l.held-index (vec_items l.self.held));
-      len : deque_len l.path ≡ deque_len l.initial.path + l.held-index;
-      room : deque_capacity l.path ≡ deque_capacity l.initial.path;
+      len : vec_len l.path ≡ vec_len l.initial.path + l.held-index;
+      room : vec_capacity l.path ≡ vec_capacity l.initial.path;
     }
