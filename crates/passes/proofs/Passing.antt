@@ -1,5 +1,5 @@
 -- A run from pass to pass.
-use Rattle.std.proofs.Common.{◌≡◌, ℕ, zero, suc, ◌+◌, ◌%◌, ◌^◌, ◌-◌, ◌<◌, ◌≤◌, min, Bool, true, false, cond, not, ◌&&◌, ◌||◌, leb, ltb, List, [], ◌∷◌, ◌++◌, map, length, get_or, drop, replicate, Ok, Err, Result, sym, refl, ap, ◌∙◌, subst, ap₂, inl, inr, arith}
+use Rattle.std.proofs.Common.{◌≡◌, ℕ, zero, suc, ◌+◌, ◌%◌, ◌^◌, ◌-◌, ◌<◌, ◌≤◌, Bool, true, false, cond, not, ◌&&◌, ◌||◌, leb, ltb, List, [], ◌∷◌, ◌++◌, map, length, get_or, drop, replicate, Ok, Err, Result, sym, refl, ap, ◌∙◌, subst, ap₂, inl, inr, arith}
 use native.Mathlib.Nat.{mod-add-mod, add-mod-mod}
 use Rattle.std.proofs.lemmas.Bool.{cases_lt, and_parts}
 use Rattle.std.proofs.lemmas.Bool.Decides.{nat_tests}
@@ -175,11 +175,12 @@ passes_small : (d : ℕ) → d ≤ 8 → passes d ≤ 9
 passes_small zero h = omega arith
 passes_small (suc j) h = omega arith
 
-pub all_done : (p : Plan) (rs : List Record) (w : Wanted) (k end : ℕ) → PassesTest rs → p.depth ≡ depth_of w rs → end ≡ min (passes p.depth) 255 → k ≤ end → end ≤ k → k ≡ passes p.depth
-all_done p rs w k end t e f low high =
-    let small = deepest_small w rs t (length rs) (omega arith) in
+-- The number of each pass is small.
+pub pass_small : (p : Plan) (rs : List Record) (w : Wanted) (k : ℕ) → PassesTest (table_of p) → table_of p ≡ rs → p.depth ≡ depth_of w rs → k < passes p.depth → k + 1 ≤ 255
+pass_small p rs w k t same e h =
+    let small = deepest_small w rs (subst PassesTest same t) (length rs) (omega arith) in
     let few = passes_small p.depth (omega (arith, small, e)) in
-    omega (arith, few, f)
+    omega (arith, few, h)
 
 -- a plan's run is that of its table and wish
 pub as_asked : (can : Loss → Type 0) (p : Plan) (rs : List Record) (w : Wanted) (row : List Bool) (n : Network) (body : List Bool) (r : Result ℕ ScanFault) (m : Network) (after : List Bool)

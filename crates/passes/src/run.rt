@@ -1,5 +1,5 @@
 // What a run shifts.
-ghost use Rattle.std.specs.Prelude.{◌≡◌, ℕ, length};
+ghost use Rattle.std.specs.Prelude.{◌≡◌, ℕ, ◌≤◌, length};
 ghost use Rattle.bits.specs.Order.{row_bits};
 ghost use Rattle.scan.specs.Network.{rest};
 ghost use Rattle.scan.specs.Calls.{Once};
@@ -17,15 +17,16 @@ use shifting::shift_sib;
 use table::Record;
 
 // One pass: a capture, a shift for each cell of the path, and an update. It keeps in `body` what comes out of the instruments
-// read; answers how many bits it shifted, modulo 2^64.
+// read; answers how many bits it shifted, modulo 2^64. (A plan knows the path's length by the byte of a depth: pass 256, which only
+// a table that breaks a rule has, is asked for that of pass 255, which leaves out the rows.)
 fn pass<S: Scan>(
     scan: &mut S,
     plan: &Plan,
-    pass: u8,
+    pass: u16,
     sent: &[u8],
     body: &mut [u8],
 ) -> Result<u64, ScanFault>
-    ensures did { PassesTest (table_of plan.now) → S.valid scan.old → (S.network scan.old).phase ≡ rest → PassDoes S.losses (S.network scan.old) (string_of plan.now (row_bits sent.now) pass) (sieve_of plan.now (row_bits sent.now) pass) (row_bits body.old) result (S.network scan.new) (row_bits body.new) }
+    ensures did { pass ≤ 255 → PassesTest (table_of plan.now) → S.valid scan.old → (S.network scan.old).phase ≡ rest → PassDoes S.losses (S.network scan.old) (string_of plan.now (row_bits sent.now) pass) (sieve_of plan.now (row_bits sent.now) pass) (row_bits body.old) result (S.network scan.new) (row_bits body.new) }
     ensures kept { S.valid scan.old → S.valid scan.new }
 {
     scan.capture()?;
@@ -39,10 +40,13 @@ fn pass<S: Scan>(
             to = shift_sib(scan, visit, sent, from, body, to)?;
         }
         // A write that is excluded, or not on the path, has bits in `sent` too.
-        from = from.skip(plan.sent_bits(number));
+        let bits = plan.sent_bits(number);
+        if bits > 0 {
+            from = from.skip(bits);
+        }
     }
     scan.update()?;
-    Ok(plan.path_len(pass))
+    Ok(plan.path_len(pass.min(255) as u8))
 }
 
 // Writes and reads the chosen instruments that are not excluded; answers how many bits it shifted.

@@ -1,9 +1,14 @@
 -- What the chains over a table's records and numbers count.
-use Rattle.std.proofs.Common.{◌≡◌, ℕ, zero, suc, ◌+◌, ◌-◌, ◌≤◌, Bool, true, false, cond, ◌&&◌, ◌||◌, ltb, leb, List, [], ◌∷◌, ◌++◌, length, get_or, take, drop, reverse, sym, refl, ap, ◌∙◌, arith}
-use Rattle.std.specs.List.{range_with_len, take_while, list_any}
+use Rattle.std.proofs.Common.{◌≡◌, ℕ, zero, suc, ◌+◌, ◌-◌, ◌≤◌, Bool, true, false, cond, ◌&&◌, ◌||◌, ltb, leb, List, [], ◌∷◌, length, get_or, take, drop, reverse, Option, sym, refl, ap, ◌∙◌, subst, ap₂, arith}
+use Rattle.std.specs.List.{take_while, list_any}
+use Rattle.std.specs.declared.iter.Rev.{Rev}
+use Rattle.std.specs.declared.ops.Range.{Range}
+use Rattle.std.specs.Iterator.Adapters.{rev_source, rev_steps}
+use Rattle.std.specs.Range.{range_steps_back}
+use Rattle.std.proofs.lemmas.Iterator.{YieldsList}
+use Rattle.std.proofs.lemmas.Iterator.Consumers.{YieldsList-from_shown}
 use Rattle.std.proofs.lemmas.List.{take_more, get_or-drop, reverse-append, length-drop}
 use Rattle.std.proofs.lemmas.List.Sums.{take_while-cons}
-use Rattle.std.proofs.lemmas.List.Folds.{list_any-append}
 use Rattle.std.proofs.lemmas.Bool.Decides.{nat_tests}
 use Rattle.table.specs.declared.Record.{Record}
 use Rattle.table.specs.Rules.{blank}
@@ -11,7 +16,7 @@ use Rattle.table.specs.Marks.{numbered}
 use Rattle.retarget.specs.Wants.{found}
 use Rattle.plan.specs.declared.wanted.Plan.{Plan}
 use Rattle.plan.specs.Order.{shape_at, wanted_at}
-use Rattle.plan.specs.Plans.{table_of, plan_shapes, plan_wants}
+use Rattle.plan.specs.Plans.{table_of, plan_shapes, plan_wants, deeper_at}
 use Rattle.plan.specs.Length.{run, seen}
 use Rattle.plan.proofs.Numbers.{found_step}
 use Rattle.plan.proofs.Sections.{seen_step, seen_none}
@@ -45,61 +50,44 @@ run_back p pass d b (suc m) h =
     counts true xs r = refl
     counts false xs r = refl
 
-last_number : (a n : ℕ) → range_with_len a (suc n) ≡ range_with_len a n ++ (a + n) ∷ []
-last_number a zero = let e : a ≡ a + 0 = omega arith in ap (λ (k : ℕ). k ∷ []) e
-last_number a (suc n) =
-    let e : a + 1 + n ≡ a + suc n = omega arith in
-    ap (λ (ks : List ℕ). a ∷ ks) (last_number (a + 1) n ∙ ap (λ (k : ℕ). range_with_len (a + 1) n ++ k ∷ []) e)
+-- n numbers that go down to a
+abbrev pub countdown : ℕ → ℕ → List ℕ
+countdown a zero = []
+countdown a (suc n) = (a + n) ∷ countdown a n
 
--- Among the run of numbers from m down that lie deeper than d, one is wanted.
-pub any_behind : (p : Plan) (pass d m k : ℕ) → m ≤ length (table_of p) → k ≤ m → k ≡ run d (seen p pass m 0)
-    → list_any (wanted_at p.wanted (table_of p)) (range_with_len (suc m - k) k) ≡ found (suc d) (plan_shapes p m) (plan_wants p m)
-any_behind p pass d zero k h l e = let z : k ≡ 0 = omega arith in rw z refl
-any_behind p pass d (suc m) k h l e = split (λ b. any_behind p pass d m (run d (seen p pass m 0)) (omega arith) b refl) (ltb d (shape_at (table_of p) (suc m)).depth) refl
+counted : (a n b m x : ℕ) → n ≡ suc m → x ≡ a + m → b ≡ a → countdown a n ≡ x ∷ countdown b m
+counted a n b m x e f g =
+    ap (countdown a) e ∙ ap (λ (w : ℕ). w ∷ countdown a m) (sym f) ∙ ap (λ (w : ℕ). x ∷ countdown w m) (sym g)
+
+abbrev pub range_back : Range ℕ → Option ℕ → Range ℕ → Type 0
+range_back = range_steps_back (λ a b. b - a) (λ a b. b ≡ a + 1)
+
+-- what a range yields from its end
+pub yields_countdown : {s : Rev (Range ℕ)} (a b n : ℕ) → rev_source s ≡ record { start = a; end = b } → b - a ≡ n
+    → YieldsList (rev_steps range_back) (λ x. x) s (countdown a n)
+yields_countdown {s} a b n e l =
+    subst (YieldsList (rev_steps range_back) (λ x. x) s) (ap (λ (r : Range ℕ). countdown r.start (r.end - r.start)) e ∙ ap (countdown a) l)
+    (YieldsList-from_shown (rev_steps range_back) (λ x. x) (λ u. countdown (rev_source u).start ((rev_source u).end - (rev_source u).start))
+    (λ u t h. ap (λ (k : ℕ). length (countdown (rev_source u).start k)) h.1.0)
+    (λ u x t h. counted (rev_source u).start _ (rev_source t).start _ x (omega (arith, h.0, h.1.0, h.1.2)) (omega (arith, h.0, h.1.0, h.1.1, h.1.2)) h.0) s)
+
+-- Among the numbers from m down that lie deeper than d, up to the first that does not, one is wanted.
+pub any_behind : (p : Plan) (d m : ℕ) → m ≤ length (table_of p)
+    → list_any (wanted_at p.wanted (table_of p)) (take_while (deeper_at (table_of p) d) (countdown 1 m)) ≡ found (suc d) (plan_shapes p m) (plan_wants p m)
+any_behind p d zero h = refl
+any_behind p d (suc m) h =
+    let W = wanted_at p.wanted (table_of p) in
+    let D = deeper_at (table_of p) d in
+    let top : 1 + m ≡ suc m = omega arith in
+    let back : suc m - 1 ≡ m = omega arith in
+    let deep : D (suc m) ≡ leb (suc d) (shape_at (table_of p) (suc m)).depth = grind (arith, nat_tests) in
+    ap (list_any W) (take_while-cons D (1 + m) (countdown 1 m))
+    ∙ chosen W (D (1 + m)) (1 + m) (take_while D (countdown 1 m))
+    ∙ ap (λ (n : ℕ). D n && (W n || list_any W (take_while D (countdown 1 m)))) top
+    ∙ ap₂ (λ (a b : Bool). a && (W (suc m) || b)) deep (any_behind p d m (omega arith))
+    ∙ ap (λ (j : ℕ). leb (suc d) (shape_at (table_of p) (suc m)).depth && (W (suc m) || found (suc d) (plan_shapes p j) (plan_wants p j))) (sym back)
+    ∙ sym (found_step (suc d) p (suc m) (omega arith))
   where
-    W : ℕ → Bool
-    W = wanted_at p.wanted (table_of p)
-
-    rest : ℕ
-    rest = run d (seen p pass m 0)
-
-    back : suc m - 1 ≡ m
-    back = omega arith
-
-    counted : k ≡ cond (ltb d (shape_at (table_of p) (suc m)).depth) (suc rest) 0
-    counted =
-        e ∙ ap (run d) (seen_step p pass (suc m) 0 (omega arith))
-        ∙ ap (λ (j : ℕ). cond (ltb d (shape_at (table_of p) (suc m)).depth) (suc (run d (seen p pass j 0))) 0) back
-
-    step : found (suc d) (plan_shapes p (suc m)) (plan_wants p (suc m)) ≡ (leb (suc d) (shape_at (table_of p) (suc m)).depth && (W (suc m) || found (suc d) (plan_shapes p m) (plan_wants p m)))
-    step =
-        found_step (suc d) p (suc m) (omega arith)
-        ∙ ap (λ (j : ℕ). leb (suc d) (shape_at (table_of p) (suc m)).depth && (W (suc m) || found (suc d) (plan_shapes p j) (plan_wants p j))) back
-
-    turn : (w f : Bool) → (f || (w || false)) ≡ (true && (w || f))
-    turn true true = refl
-    turn true false = refl
-    turn false true = refl
-    turn false false = refl
-
-    split : (rest ≤ m → list_any W (range_with_len (suc m - rest) rest) ≡ found (suc d) (plan_shapes p m) (plan_wants p m)) → (t : Bool) → ltb d (shape_at (table_of p) (suc m)).depth ≡ t → list_any W (range_with_len (suc (suc m) - k) k) ≡ found (suc d) (plan_shapes p (suc m)) (plan_wants p (suc m))
-    split below true t =
-        let more : k ≡ suc rest = counted ∙ ap (λ (b : Bool). cond b (suc rest) 0) t in
-        let deep : leb (suc d) (shape_at (table_of p) (suc m)).depth ≡ true = grind (arith, nat_tests) in
-        let from : suc (suc m) - k ≡ suc m - rest = omega (arith, more) in
-        let top : suc m - rest + rest ≡ suc m = omega (arith, more) in
-        ap (λ (j : ℕ). list_any W (range_with_len j k)) from
-        ∙ ap (λ (j : ℕ). list_any W (range_with_len (suc m - rest) j)) more
-        ∙ ap (list_any W) (last_number (suc m - rest) rest)
-        ∙ list_any-append W (range_with_len (suc m - rest) rest) ((suc m - rest + rest) ∷ [])
-        ∙ ap (λ (j : ℕ). list_any W (range_with_len (suc m - rest) rest) || (W j || false)) top
-        ∙ ap (λ (b : Bool). b || (W (suc m) || false)) (below (omega (arith, more)))
-        ∙ turn (W (suc m)) (found (suc d) (plan_shapes p m) (plan_wants p m))
-        ∙ ap (λ (b : Bool). b && (W (suc m) || found (suc d) (plan_shapes p m) (plan_wants p m))) (sym deep)
-        ∙ sym step
-    split below false t =
-        let none : k ≡ 0 = counted ∙ ap (λ (b : Bool). cond b (suc rest) 0) t in
-        let shallow : leb (suc d) (shape_at (table_of p) (suc m)).depth ≡ false = grind (arith, nat_tests) in
-        ap (λ (j : ℕ). list_any W (range_with_len (suc (suc m) - j) j)) none
-        ∙ ap (λ (b : Bool). b && (W (suc m) || found (suc d) (plan_shapes p m) (plan_wants p m))) (sym shallow)
-        ∙ sym step
+    chosen : (W : ℕ → Bool) (t : Bool) (n : ℕ) (ns : List ℕ) → list_any W (cond t (n ∷ ns) []) ≡ (t && (W n || list_any W ns))
+    chosen W true n ns = refl
+    chosen W false n ns = refl

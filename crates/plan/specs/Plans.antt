@@ -32,6 +32,10 @@ abbrev pub needed_in : Plan → ℕ → Bool
 needed_in p zero = false
 needed_in p (suc k) = needed (shape_at (table_of p) (suc k)) (plan_shapes p k) (plan_wants p k)
 
+-- whether number n is a SIB's that stands deeper than this
+abbrev pub deeper_at : List Record → ℕ → ℕ → Bool
+deeper_at rs depth n = names_sib rs n && nat_lt depth (numbered rs n).depth
+
 abbrev pub aim_at : Plan → ℕ → ℕ → Bool
 aim_at p pass n = needed_in p n || (wanted_in p n && nat_le p.depth pass)
 

@@ -32,7 +32,7 @@ impl<'a> Plan<'a> {
     }
 
     // How many SIBs above `bottom` stand behind this one: the deeper ones among the next lower numbers.
-    pub(crate) fn behind(&self, number: usize, bottom: usize) -> usize
+    fn behind(&self, number: usize, bottom: usize) -> usize
         requires { (bottom < number) × (number ≤ length (table_of self.now)) }
         ensures within { bottom + result < number }
         ensures count { (pass : ℕ) → result ≡ run (shape_at (table_of self.now) number).depth (seen self.now pass (number - 1) bottom) }

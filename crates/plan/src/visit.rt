@@ -25,7 +25,7 @@ pub struct Visit {
 
 impl<'a> Plan<'a> {
     // What a pass does at a SIB; none where it is not on the path, which reaches as deep as `reach`.
-    pub fn visit(&self, pass: u8, reach: u16, number: usize) -> Option<Visit>
+    pub fn visit(&self, pass: u16, reach: u16, number: usize) -> Option<Visit>
         ensures { Visits self.now pass reach number result }
     {
         let record = find_sib(self.records, number)?;
@@ -35,13 +35,13 @@ impl<'a> Plan<'a> {
         let needed = self.needs(number);
         let wanted = self.wants(number);
         // An instrument that opened before the last configuration pass would be written by it.
-        let bit = needed || (wanted && pass >= self.depth);
-        let reach = if needed && record.depth < pass {
+        let bit = needed || (wanted && pass >= u16::from(self.depth));
+        let reach = if needed && u16::from(record.depth) < pass {
             u16::from(record.depth) + 1
         } else {
             u16::from(record.depth)
         };
-        let row = match (wanted && pass > self.depth, record.write) {
+        let row = match (wanted && pass > u16::from(self.depth), record.write) {
             (false, _) => Row::Hidden,
             (true, false) => Row::Read {
                 cells: record.length,

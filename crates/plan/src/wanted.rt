@@ -1,12 +1,11 @@
 // What a run wants, and the doorways that it needs for that.
-ghost use Rattle.std.specs.Prelude.{◌≡◌, ℕ, ◌+◌, ◌-◌, ◌<◌, ◌≤◌, min, Bool, true, false, ◌&&◌, length};
-ghost use Rattle.std.specs.List.{list_any, range_with_len};
+ghost use Rattle.std.specs.Prelude.{◌≡◌, ℕ, ◌+◌, ◌-◌, ◌<◌, ◌≤◌, Bool, true, false, ◌&&◌, length};
 ghost use Rattle.retarget.specs.Runs.{passes};
 ghost use Rattle.table.specs.Marks.{names_sib};
 ghost use Rattle.plan.specs.Order.{wanted_at};
-ghost use Rattle.plan.specs.Plans.{table_of, depth_of, needed_in};
+ghost use Rattle.plan.specs.Plans.{table_of, depth_of, needed_in, deeper_at};
 
-use table::{Kind, Record, counts_excluded, find_instrument};
+use table::{Kind, Record, counts_excluded, find_instrument, find_sib};
 
 // Which instruments a run wants: data and no closure, so that contracts can name it and one place can ask it.
 #[derive(Clone, Copy, Debug, PartialEq, Eq)]
@@ -74,13 +73,13 @@ impl<'a> Plan<'a> {
     }
 
     // How many passes a run has: one that configures for each depth, and the data pass. With nothing wanted there is none.
-    // (A depth is a byte, so the answer is at most 255; in a table that passes its test no depth is above 8.)
-    pub fn passes(&self) -> u8
-        ensures { result ≡ min (passes self.now.depth) 255 }
+    // (A depth is a byte, so a pass's number is not: in a table that breaks a rule there may be 256 of them.)
+    pub fn passes(&self) -> u16
+        ensures { result ≡ passes self.now.depth }
     {
         match self.depth {
             0 => 0,
-            depth => depth.saturating_add(1),
+            depth => u16::from(depth) + 1,
         }
     }
 
@@ -90,21 +89,29 @@ impl<'a> Plan<'a> {
         self.wanted.takes(self.records, number)
     }
 
-    // A doorway is needed when a wanted instrument stands behind it.
+    // A doorway is needed when a wanted instrument stands behind it. (A pass asks this of each SIB on its path.)
+    #[inline]
     pub(crate) fn needs(&self, number: usize) -> bool
         requires { (1 ≤ number) × (number ≤ length (table_of self.now)) }
         ensures { result ≡ needed_in self.now number }
     {
-        match self.records[number - 1].kind {
+        let record = self.records[number - 1];
+        // Read once, before a loop that may be long.
+        let wanted = self.wanted;
+        match record.kind {
             Kind::Instrument => false,
-            Kind::Doorway => self.wants_any(number - self.behind(number, 0), number),
+            // Down from the doorway, so that it ends at the first that is wanted.
+            Kind::Doorway => (1..number)
+                .rev()
+                .take_while(|below| self.lies_deeper(*below, record.depth))
+                .any(|below| wanted.takes(self.records, below)),
         }
     }
 
-    // Whether a number from the one to below the other is wanted.
-    fn wants_any(&self, from: usize, to: usize) -> bool
-        ensures { result ≡ list_any (wanted_at self.now.wanted (table_of self.now)) (range_with_len from (to - from)) }
+    // Whether the number is that of a SIB that stands deeper than this.
+    fn lies_deeper(&self, number: usize, depth: u8) -> bool
+        ensures { result ≡ deeper_at (table_of self.now) depth number }
     {
-        (from..to).any(|number| self.wants(number))
+        find_sib(self.records, number).is_some_and(|record| record.depth > depth)
     }
 }
