@@ -45,10 +45,9 @@ impl Session {
     fn carry_out(&mut self, heap: Global, statement: Statement) -> Result<(), HostFault> {
         match statement {
             Statement::Write { number, digits } => {
-                let number = number_named(number)?;
                 let bits = bits_of(heap, digits)?;
                 self.group
-                    .write(self.die.records(), number, bits.as_slice())
+                    .write(self.die.records(), number_named(number)?, bits.as_slice())
             }
             Statement::Get { number } => self.group.get(self.die.records(), number_named(number)?),
             Statement::Apply => self.apply(heap),
