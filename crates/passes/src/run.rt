@@ -17,8 +17,8 @@ use shifting::shift_sib;
 use table::Record;
 
 // One pass: a capture, a shift for each cell of the path, and an update. It keeps in `body` what comes out of the instruments
-// read; answers how many bits it shifted, modulo 2^64. (A plan knows the path's length by the byte of a depth: pass 256, which only
-// a table that breaks a rule has, is asked for that of pass 255, which leaves out the rows.)
+// read; answers how many bits it shifted, modulo 2^64. (Pass 256, which only a table that breaks a rule has, counts as the pass
+// before it, without the rows.)
 fn pass<S: Scan>(
     scan: &mut S,
     plan: &Plan,
@@ -46,7 +46,7 @@ fn pass<S: Scan>(
         }
     }
     scan.update()?;
-    Ok(plan.path_len(pass.min(255) as u8))
+    Ok(plan.path_len(pass.min(255)))
 }
 
 // Writes and reads the chosen instruments that are not excluded; answers how many bits it shifted.

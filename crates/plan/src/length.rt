@@ -23,12 +23,12 @@ fn deeper_below(records: &[Record], depth: u8) -> usize
 
 impl<'a> Plan<'a> {
     // Whether a SIB is open while a pass shifts.
-    fn is_open(&self, pass: u8, number: usize) -> bool
+    fn is_open(&self, pass: u16, number: usize) -> bool
         requires { (1 ≤ number) × (number ≤ length (table_of self.now)) }
         ensures { result ≡ open_at self.now pass number }
     {
-        let before = self.records[number - 1].depth < pass;
-        (before && self.needs(number)) || (pass > self.depth && self.wants(number))
+        let before = u16::from(self.records[number - 1].depth) < pass;
+        (before && self.needs(number)) || (pass > u16::from(self.depth) && self.wants(number))
     }
 
     // How many SIBs above `bottom` stand behind this one: the deeper ones among the next lower numbers.
@@ -46,7 +46,7 @@ impl<'a> Plan<'a> {
     // A section, here the numbers from `top` down to the one above `bottom`, is as long as its SIBs. How far the loop goes down at
     // each turn is how many stand behind a SIB, so no iterator counts it.
     #[cycle(section_len_sib_len)]
-    fn section_len(&self, pass: u8, top: usize, bottom: usize) -> u64
+    fn section_len(&self, pass: u16, top: usize, bottom: usize) -> u64
         requires { (bottom ≤ top) × (top ≤ length (table_of self.now)) }
         ensures { result ≡ section false 0 (seen self.now pass top bottom) % 2 ^ 64 }
     {
@@ -62,7 +62,7 @@ impl<'a> Plan<'a> {
 
     // A SIB is one cell and, when open, what stands behind it: an instrument's row, or a section down to the one above `bottom`.
     #[cycle(section_len_sib_len)]
-    fn sib_len(&self, pass: u8, number: usize, bottom: usize) -> u64
+    fn sib_len(&self, pass: u16, number: usize, bottom: usize) -> u64
         requires { (bottom < number) × (number ≤ length (table_of self.now)) }
         ensures { result ≡ sib (seen_at self.now pass number) (seen self.now pass (number - 1) bottom) % 2 ^ 64 }
     {
@@ -77,7 +77,7 @@ impl<'a> Plan<'a> {
     }
 
     // How many cells the active path has while a pass shifts, modulo 2^64.
-    pub fn path_len(&self, pass: u8) -> u64
+    pub fn path_len(&self, pass: u16) -> u64
         ensures { Formed 1 (plan_shapes self.now (length (table_of self.now))) → result ≡ path_span self.now pass % 2 ^ 64 }
     {
         self.section_len(pass, self.records.len(), 0)

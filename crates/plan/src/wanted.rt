@@ -73,7 +73,7 @@ impl<'a> Plan<'a> {
     }
 
     // How many passes a run has: one that configures for each depth, and the data pass. With nothing wanted there is none.
-    // (A depth is a byte, so a pass's number is not: in a table that breaks a rule there may be 256 of them.)
+    // (A depth is a byte, but the number of a pass is not: in a table that breaks a rule there may be 256 of them.)
     pub fn passes(&self) -> u16
         ensures { result ≡ passes self.now.depth }
     {
